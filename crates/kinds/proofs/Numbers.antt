@@ -1,13 +1,14 @@
 -- A number in bytes, high byte first, and back: for every width.
 use mathlib.Core.Path.{_≡_, refl, sym, ap, _∙_}
 use mathlib.Core.List.{List, [], _∷_}
-use Prim.Native.Nat.{ℕ, zero, suc, _+_, _*_, _/_, _%_, _^_, _<_}
+use Prim.Native.Nat.{ℕ, zero, suc, _+_, _*_, _/_, _%_, _^_, _<_, _≤_}
 use native.Mathlib.Nat.{add-mul, mul-assoc, mul-comm, mod-eq-of-lt, pow-suc, one-le-pow, mul-one, mod-one}
 use native.Mathlib.Omega.{arith}
 use lib.Arith.{digits-div, mod-mul}
-use lib.ListN.{length, getD}
+use lib.ListN.{length, getD, take, drop}
 use Rattle.std.specs.shelf.Digits.{numberAfter}
 use Rattle.std.proofs.shelf.Digits.{number-lt}
+use Rattle.std.proofs.shelf.Lists.{drop-more, take-all}
 use Rattle.kinds.specs.Bytes.{Bytes, highFirst, numberOf}
 
 pub length-highFirst : (k n : ℕ) → length (highFirst k n) ≡ k
@@ -62,17 +63,16 @@ highFirst-after (d ∷ ds) a h =
 pub highFirst-number : (b : List ℕ) → Bytes b → highFirst (length b) (numberOf b) ≡ b
 highFirst-number b h = highFirst-after b 0 h
 
--- a list by its elements, from a place on
+-- so many elements of a list, from a place on
 abbrev pub places : List ℕ → ℕ → ℕ → List ℕ
 places b i zero = []
-places b i (suc n) = getD b i 0 ∷ places b (suc i) n
+places b i (suc n) = getD b i 0 ∷ places b (i + 1) n
 
-places-shift : (x : ℕ) (b : List ℕ) (i n : ℕ) → places (x ∷ b) (suc i) n ≡ places b i n
-places-shift x b i zero = refl
-places-shift x b i (suc n) = ap (λ t. getD b i 0 ∷ t) (places-shift x b (suc i) n)
+-- a part of a list by its elements
+pub part-listed : (b : List ℕ) (i n : ℕ) → i + n ≤ length b → take n (drop i b) ≡ places b i n
+part-listed b i zero h = refl
+part-listed b i (suc n) h =
+    ap (take (suc n)) (drop-more b i 0 (omega arith)) ∙ ap (λ t. getD b i 0 ∷ t) (part-listed b (i + 1) n (omega arith))
 
 pub listed : (b : List ℕ) (n : ℕ) → length b ≡ n → b ≡ places b 0 n
-listed [] zero h = refl
-listed [] (suc n) h = absurd (omega arith)
-listed (x ∷ b) zero h = absurd (omega arith)
-listed (x ∷ b) (suc n) h = ap (λ t. x ∷ t) (listed b n (omega arith) ∙ sym (places-shift x b 0 n))
+listed b n h = sym (take-all n b (omega arith)) ∙ part-listed b 0 n (omega arith)

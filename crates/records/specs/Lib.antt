@@ -1,0 +1,5 @@
+pub mod Marks
+pub mod Records
+pub mod Reading
+pub mod Answers
+pub mod Writing
