@@ -4,7 +4,7 @@ use mathlib.Core.List.{List, [], _∷_, _++_, append-nil, append-assoc}
 use Prim.Native.Nat.{ℕ, _+_, _-_, _≤_, _<_}
 use native.Mathlib.Nat.{zero-add}
 use native.Mathlib.Omega.{arith}
-use lib.ListN.{length, getD, take, drop}
+use lib.ListN.{length, getD, set, take, drop}
 use borrow.Rule.Slice.PartMut.{putMid}
 use mir.Syntax.{w8}
 use mir.Val.{Fits}
@@ -44,3 +44,15 @@ length-over s w place h =
 -- what was written stands there
 pub over-stands : (s w : List ℕ) (place : ℕ) → place ≤ length s → drop place (over place w s) ≡ w ++ drop (place + length w) s
 over-stands s w place h = drop-at (take place s) (w ++ drop (place + length w) s) place (length-take-le place s h)
+
+-- a buffer that holds w from a place on, lent from the end of w on to a writer of v
+pub over-next : (s w v now out : List ℕ) (place p : ℕ) → now ≡ over place w s → p ≡ place + length w → p ≤ length s → out ≡ over 0 v (take (length now - p) (drop p now)) → putMid p (length now - p) now out ≡ over place (w ++ v) s
+over-next s w v now out place p is end room wrote =
+    let len : length now ≡ length s = ap length is ∙ length-over s w place (omega arith) in
+    over-lent now v out p (omega arith) wrote ∙ (λ i. over (end i) v (is i)) ∙ over-over s w v place (omega arith)
+
+-- two bytes set at the front
+pub over-two : (s : List ℕ) (x y : ℕ) → 2 ≤ length s → set (set s 0 x) 1 y ≡ over 0 (x ∷ (y ∷ [])) s
+over-two [] x y h = absurd (omega arith)
+over-two (a ∷ []) x y h = absurd (omega arith)
+over-two (a ∷ (b ∷ s)) x y h = refl

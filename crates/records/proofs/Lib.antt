@@ -1,3 +1,5 @@
 pub mod Parts
 pub mod Heads
 pub mod Exactly
+pub mod Symbols
+pub mod Putting

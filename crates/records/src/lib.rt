@@ -4,3 +4,4 @@ pub mod mark;
 mod number;
 pub mod read;
 pub mod record;
+pub mod write;
