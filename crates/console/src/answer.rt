@@ -4,7 +4,7 @@ ghost use lib.Chars.{codes};
 ghost use Rattle.std.specs.Of.String.{string-bytes};
 ghost use Rattle.std.specs.Vec.{made};
 ghost use Rattle.std.specs.Written.{decimal};
-ghost use Rattle.console.specs.Texts.{orderText};
+ghost use Rattle.console.specs.Texts.{Closing-text, orderText};
 use crate::text::hex;
 use records::record::Record;
 use std::alloc::AllocError;
@@ -43,16 +43,25 @@ pub fn compared(heap: Global, c: Comparison) -> Result<String, AllocError>
     format!(heap, "{name} shared {share} pairs {pairs}")
 }
 
-pub fn recorded(heap: Global, record: Record, next: usize) -> Result<String, AllocError> {
-    match record {
-        Record::Entry { numbers, length: _, symbols } => {
+pub fn recorded(heap: Global, found: Record, next: usize) -> Result<String, AllocError>
+    ensures { λ r. ⌜ made r (λ s. Closing-text (found .entry) next (string-bytes s)) ⌝ }
+{
+    match found {
+        Record::Entry {
+            numbers,
+            symbols,
+            ..
+        } => {
             let child = numbers.children.code();
             let weight = numbers.weight;
             let tag = numbers.tag;
             let left = numbers.left;
             let right = numbers.right;
             let symbols = hex(heap, symbols)?;
-            format!(heap, "entry {child} {weight} {tag} {left} {right} {symbols} next {next}")
+            format!(
+                heap,
+                "entry {child} {weight} {tag} {left} {right} {symbols} next {next}"
+            )
         }
         Record::Closing { count } => format!(heap, "closing {count} next {next}"),
     }

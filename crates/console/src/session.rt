@@ -1,5 +1,8 @@
 ghost use mathlib.Core.Path.{_≡_};
 ghost use Rattle.limits.specs.Capacity.{limitsFor};
+ghost use Rattle.std.specs.declared.option.Option.the-variants.{None};
+ghost use Rattle.std.specs.declared.result.Result.the-variants.{Ok};
+ghost use lib.ListN.{getD};
 use crate::answer::brought;
 use crate::answer::compared;
 use crate::answer::opened;
@@ -12,7 +15,6 @@ use crate::symbol::PenElementSymbol;
 use crate::symbol::Symbol;
 use crate::symbol::word;
 use crate::text::bytes;
-use words::comparison::compare_words;
 use kinds::letter::Letter;
 use kinds::pen::PenElement;
 use limits::bounds::Limits;
@@ -20,6 +22,7 @@ use limits::refusal::RefusalDisplay;
 use records::read::read_record;
 use std::alloc::AllocError;
 use std::alloc::Global;
+use words::comparison::compare_words;
 
 // The open dictionary: its kind, its limits, and how much memory is brought to the calls that take some.
 #[derive(Clone, Copy)]
@@ -46,7 +49,11 @@ impl Session {
 }
 
 // Compares two words of a kind, or answers none where one cannot be read.
-fn compare<S: Symbol>(heap: Global, first: &str, second: &str) -> Result<Option<String>, AllocError> {
+fn compare<S: Symbol>(
+    heap: Global,
+    first: &str,
+    second: &str,
+) -> Result<Option<String>, AllocError> {
     let Some(a) = word::<S>(heap, first)? else {
         return Ok(None);
     };
@@ -70,8 +77,17 @@ fn record<S: Symbol>(heap: Global, hex: &str, place: usize) -> Result<Option<Str
 }
 
 // Runs a command on the open dictionary, or answers none where a part of it cannot be read.
-fn run(heap: Global, session: &mut Option<Session>, command: Command) -> Result<Option<String>, AllocError> {
-    if let Command::Open { kind, table, strip, ceiling } = command {
+fn run(
+    heap: Global,
+    session: &mut Option<Session>,
+    command: Command,
+) -> Result<Option<String>, AllocError> {
+    if let Command::Open {
+        kind,
+        table,
+        strip,
+        ceiling,
+    } = command {
         let open = Session::open(kind, table, strip, ceiling);
         let text = opened(heap, open.limits.capacity(), open.limits.ceiling())?;
         *session = Some(open);
@@ -102,13 +118,24 @@ fn run(heap: Global, session: &mut Option<Session>, command: Command) -> Result<
 
 // What a line that cannot be read is answered.
 fn unread(heap: Global, opened: bool) -> Result<Option<String>, AllocError> {
-    let text = if opened { "bad command" } else { "no dictionary" };
+    let text = if opened {
+        "bad command"
+    } else {
+        "no dictionary"
+    };
     let answer = String::from_str(heap, text)?;
     Ok(Some(answer))
 }
 
-// Runs one line of a script and answers what to print, or none for a line that is passed over.
-pub fn run_line(heap: Global, session: &mut Option<Session>, line: &[u8]) -> Result<Option<String>, AllocError> {
+// Runs one line of a script and answers what to print, or none for a line that is passed over:
+// one without words, or that begins with `#`.
+pub fn run_line(
+    heap: Global,
+    session: &mut Option<Session>,
+    line: &[u8],
+) -> Result<Option<String>, AllocError>
+    ensures { λ r. ⌜ (getD (now (line .entry)) 0 35 ≡ 35 → (r ≡ Ok None) × (now (session .exit) ≡ now (session .entry))) ⌝ }
+{
     if line.is_empty() || line[0] == b'#' {
         return Ok(None);
     }

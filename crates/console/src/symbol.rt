@@ -1,3 +1,10 @@
+ghost use lib.Chars.{codes};
+ghost use mathlib.Core.List.{[]};
+ghost use mathlib.Core.Path.{_≡_};
+ghost use Rattle.std.specs.Of.Vec.{vec-items};
+ghost use Rattle.std.specs.Options.{mapped};
+ghost use Rattle.std.specs.Vec.{made};
+ghost use Rattle.std.specs.declared.option.Option.the-variants.{Some};
 use crate::text::number;
 use kinds::kind::Written;
 use kinds::letter::Letter;
@@ -61,7 +68,9 @@ pub impl Symbol for PenElement as PenElementSymbol {
 }
 
 // A word of a script: `-` without symbols, `=` before a text, else pieces joined by full stops.
-pub fn word<S: Symbol>(heap: Global, text: &str) -> Result<Option<Vec<S>>, AllocError> {
+pub fn word<S: Symbol>(heap: Global, text: &str) -> Result<Option<Vec<S>>, AllocError>
+    ensures { λ r. ⌜ (now (text .entry) ≡ codes "-" → made r (λ o. mapped vec-items o ≡ Some [])) ⌝ }
+{
     let mut word = Vec::new(heap);
     if text == "-" {
         return Ok(Some(word));

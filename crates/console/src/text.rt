@@ -1,15 +1,20 @@
-ghost use Prim.Native.Nat.{ℕ, _≤_, _<_};
+ghost use Prim.Native.Nat.{ℕ, _+_, _≤_, _<_};
+ghost use lib.Chars.{codes};
 ghost use lib.ListN.{length, getD};
+ghost use mathlib.Core.Logic.{_⊎_};
 ghost use mathlib.Core.Path.{_≡_};
-ghost use Rattle.console.specs.Texts.{hexDigit, numeral};
-ghost use Rattle.std.specs.Options.{Cases as BySome};
+ghost use Rattle.console.specs.Texts.{byteOf, digitOf, hexDigit, hexPairs, hexText, numeral};
+ghost use Rattle.std.specs.Of.String.{string-bytes};
+ghost use Rattle.std.specs.Of.Vec.{vec-items};
+ghost use Rattle.std.specs.Vec.{made};
+ghost use Rattle.std.specs.Options.{Cases as BySome, mapped};
 use std::alloc::AllocError;
 use std::alloc::Global;
 
 // Where the line that begins at a place ends: at the next line feed, or at the end of the script.
 pub fn line_end(script: &[u8], from: usize) -> usize
-    requires { ⌜ from ≤ length (now script) ⌝ }
-    ensures within { λ r. ⌜ (from ≤ r) × (r ≤ length (now (script .entry))) ⌝ }
+    ensures within { λ r. ⌜ r ≤ length (now (script .entry)) ⌝ }
+    ensures onward { λ r. ⌜ (from ≤ length (now (script .entry)) → from ≤ r) ⌝ }
     ensures line { λ r. ⌜ ((k : ℕ) → from ≤ k → k < r → getD (now (script .entry)) k 0 ≡ 10 → ⊥) ⌝ }
     ensures ended { λ r. ⌜ (r < length (now (script .entry)) → getD (now (script .entry)) r 0 ≡ 10) ⌝ }
 {
@@ -49,33 +54,63 @@ fn digit(c: u8) -> Option<u8>
 }
 
 // Bytes from pairs of hexadecimal digits, or from `-` for none.
-pub fn bytes(heap: Global, text: &str) -> Result<Option<Vec<u8>>, AllocError> {
-    let mut out = Vec::new(heap);
+pub fn bytes(heap: Global, text: &str) -> Result<Option<Vec<u8>>, AllocError>
+    ensures { λ r. ⌜ made r (λ o. (now (text .entry) ≡ codes "-") ⊎ (mapped vec-items o ≡ hexPairs (now (text .entry)))) ⌝ }
+{
     if text == "-" {
-        return Ok(Some(out));
+        return Ok(Some(Vec::new(heap)));
     }
-    let digits = text.as_bytes();
-    if digits.is_empty() || digits.len() % 2 != 0 {
-        return Ok(None);
-    }
-    for pair in digits.chunks_exact(2) {
-        let (Some(high), Some(low)) = (digit(pair[0]), digit(pair[1])) else {
+    pairs(heap, text.as_bytes())
+}
+
+// The byte of the two digits at a place.
+fn pair(digits: &[u8], at: usize) -> Option<u8>
+    requires { ⌜ at + 2 ≤ length (now digits) ⌝ }
+    ensures { λ r. ⌜ r ≡ byteOf (hexDigit (getD (now (digits .entry)) at 0)) (hexDigit (getD (now (digits .entry)) (at + 1) 0)) ⌝ }
+{
+    let high = digit(digits[at])?;
+    let low = digit(digits[at + 1])?;
+    Some(high * 16 + low)
+}
+
+// Bytes from pairs of hexadecimal digits.
+fn pairs(heap: Global, digits: &[u8]) -> Result<Option<Vec<u8>>, AllocError>
+    ensures { λ r. ⌜ made r (λ o. mapped vec-items o ≡ hexPairs (now (digits .entry))) ⌝ }
+{
+    let mut out = Vec::new(heap);
+    let mut at = 0;
+    while at < digits.len() {
+        if digits.len() - at < 2 {
+            return Ok(None);
+        }
+        let Some(byte) = pair(digits, at) else {
             return Ok(None);
         };
-        out.push(high * 16 + low)?;
+        out.push(byte)?;
+        at += 2;
     }
     Ok(Some(out))
 }
 
+// The lower-case hexadecimal digit of a number below 16.
+fn digit_char(n: u8) -> char
+    requires { ⌜ n < 16 ⌝ }
+    ensures { λ r. ⌜ r ≡ digitOf n ⌝ }
+{
+    char::from(if n < 10 { b'0' + n } else { b'a' - 10 + n })
+}
+
 // Bytes as pairs of lower-case hexadecimal digits, and none as `-`.
-pub fn hex(heap: Global, bytes: &[u8]) -> Result<String, AllocError> {
+pub fn hex(heap: Global, bytes: &[u8]) -> Result<String, AllocError>
+    ensures { λ r. ⌜ made r (λ s. string-bytes s ≡ hexText (now (bytes .entry))) ⌝ }
+{
     if bytes.is_empty() {
         return String::from_str(heap, "-");
     }
     let mut out = String::new(heap);
     for b in bytes {
-        let pair = format!(heap, "{b:02x}")?;
-        out.push_str(pair.as_str())?;
+        out.push(digit_char(*b / 16))?;
+        out.push(digit_char(*b % 16))?;
     }
     Ok(out)
 }

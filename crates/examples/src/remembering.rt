@@ -20,7 +20,10 @@ impl Remembering {
     pub fn new() -> Remembering
         ensures { λ r. ⌜ (r .count ≡ 0) × (r .last ≡ None) ⌝ }
     {
-        Remembering { count: 0, last: None }
+        Remembering {
+            count: 0,
+            last: None,
+        }
     }
 
     // How often it was asked.
@@ -46,9 +49,10 @@ pub impl<S: Ordered> Comparer<S> for Remembering as RememberingComparer {
         ensures counts { λ _. ⌜ (now (self .entry) .count + 1 < 2 ^ 32 → now (self .exit) .count ≡ now (self .entry) .count + 1) ⌝ }
         ensures keeps { λ r. ⌜ now (self .exit) .last ≡ Some r ⌝ }
     {
-        self.count = self.count.saturating_add(1);
         let answer = a.compare(b);
-        self.last = Some(answer);
+        let Remembering { count, last } = self;
+        *count = count.saturating_add(1);
+        *last = Some(answer);
         answer
     }
 }

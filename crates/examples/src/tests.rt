@@ -148,9 +148,50 @@ fn refused(sheet: &[u8], at: usize) -> Option<(u8, Detail)> {
 fn a_record_is_read_back_where_it_was_written(rt: LibcRuntime) -> Result<(), Fail> {
     let word = letters(rt.alloc(), "P")?;
     let mut sheet = [9u8; 24];
-    check_eq(write_entry(&mut sheet, 2, numbers(), word.as_slice()), Some(21))?;
-    check_eq(sheet, [9, 9, 69, 3, 255, 255, 255, 255, 1, 2, 3, 4, 255, 255, 1, 2, 0, 1, 0, 0, 80, 9, 9, 9])?;
-    let Ok((Record::Entry { numbers, length, symbols }, next)) = read_record::<Letter>(&sheet, 2) else {
+    check_eq(
+        write_entry(&mut sheet, 2, numbers(), word.as_slice()),
+        Some(21),
+    )?;
+    check_eq(
+        sheet,
+        [
+            9,
+            9,
+            69,
+            3,
+            255,
+            255,
+            255,
+            255,
+            1,
+            2,
+            3,
+            4,
+            255,
+            255,
+            1,
+            2,
+            0,
+            1,
+            0,
+            0,
+            80,
+            9,
+            9,
+            9,
+        ],
+    )?;
+    let Ok(
+        (
+            Record::Entry {
+                numbers,
+                length,
+                symbols,
+            },
+            next,
+        ),
+    ) = read_record::<Letter>(&sheet, 2)
+    else {
         return Err(Fail::new("no entry"));
     };
     check_eq(numbers.children, Children::Both)?;
@@ -168,11 +209,17 @@ fn a_record_without_room_is_not_written(rt: LibcRuntime) -> Result<(), Fail> {
     let word = letters(rt.alloc(), "P")?;
     let mut sheet = [9u8; 20];
     check_eq(write_entry(&mut sheet, 2, numbers(), word.as_slice()), None)?;
-    check_eq(write_entry(&mut sheet, 18446744073709551615, numbers(), word.as_slice()), None)?;
+    check_eq(
+        write_entry(&mut sheet, 18446744073709551615, numbers(), word.as_slice()),
+        None,
+    )?;
     check_eq(write_closing(&mut sheet, 17, 1), None)?;
     check_eq(sheet, [9u8; 20])?;
     check_eq(write_closing(&mut sheet, 16, 513), Some(20))?;
-    check_eq(sheet, [9, 9, 9, 9, 9, 9, 9, 9, 9, 9, 9, 9, 9, 9, 9, 9, 90, 0, 2, 1])
+    check_eq(
+        sheet,
+        [9, 9, 9, 9, 9, 9, 9, 9, 9, 9, 9, 9, 9, 9, 9, 9, 90, 0, 2, 1],
+    )
 }
 
 #[test]
@@ -192,12 +239,30 @@ fn places_at_and_past_the_end() -> Result<(), Fail> {
 fn words_of_no_symbols_and_of_65535(rt: LibcRuntime) -> Result<(), Fail> {
     let heap = rt.alloc();
     let mut sheet = vec![in heap; 1u8; 65552]?;
-    check_eq(write_entry::<PenElement>(sheet.as_mut_slice(), 65536, numbers(), &[]), Some(65552))?;
+    check_eq(
+        write_entry::<PenElement>(sheet.as_mut_slice(), 65536, numbers(), &[]),
+        Some(65552),
+    )?;
     let lifts = vec![in heap; PenElement::Lift; 65535]?;
-    check_eq(write_entry(sheet.as_mut_slice(), 1, numbers(), lifts.as_slice()), Some(65552))?;
-    check_eq(write_entry(sheet.as_mut_slice(), 2, numbers(), lifts.as_slice()), None)?;
+    check_eq(
+        write_entry(sheet.as_mut_slice(), 1, numbers(), lifts.as_slice()),
+        Some(65552),
+    )?;
+    check_eq(
+        write_entry(sheet.as_mut_slice(), 2, numbers(), lifts.as_slice()),
+        None,
+    )?;
     match read_record::<PenElement>(sheet.as_slice(), 1) {
-        Ok((Record::Entry { length, symbols, .. }, next)) => {
+        Ok(
+            (
+                Record::Entry {
+                    length,
+                    symbols,
+                    ..
+                },
+                next,
+            ),
+        ) => {
             check_eq(length, 65535)?;
             check_eq(symbols.len(), 65535)?;
             check_eq(next, 65552)?;
@@ -206,5 +271,8 @@ fn words_of_no_symbols_and_of_65535(rt: LibcRuntime) -> Result<(), Fail> {
     }
     let long = vec![in heap; PenElement::Lift; 65536]?;
     let mut large = vec![in heap; 1u8; 70000]?;
-    check_eq(write_entry(large.as_mut_slice(), 0, numbers(), long.as_slice()), None)
+    check_eq(
+        write_entry(large.as_mut_slice(), 0, numbers(), long.as_slice()),
+        None,
+    )
 }

@@ -32,7 +32,7 @@ over-over s w v place h =
     let t : take (place + length w) (over place w s) ≡ take place s ++ w = ap (take (place + length w)) front ∙ take-at (take place s ++ w) (drop (place + length w) s) (place + length w) l in
     let d : drop (place + length w) (over place w s) ≡ drop (place + length w) s = ap (drop (place + length w)) front ∙ drop-at (take place s ++ w) (drop (place + length w) s) (place + length w) l in
     let d2 : drop (place + length w + length v) (over place w s) ≡ drop (place + length (w ++ v)) s =
-        sym (drop-drop (length v) (place + length w) (over place w s)) ∙ ap (drop (length v)) d ∙ drop-drop (length v) (place + length w) s ∙ ap (λ n. drop n s) (omega (arith, length-append w v)) in
+    sym (drop-drop (length v) (place + length w) (over place w s)) ∙ ap (drop (length v)) d ∙ drop-drop (length v) (place + length w) s ∙ ap (λ n. drop n s) (omega (arith, length-append w v)) in
     ap (λ z. z ++ (v ++ drop (place + length w + length v) (over place w s))) t ∙ ap (λ z. (take place s ++ w) ++ (v ++ z)) d2 ∙ simp append-assoc
 
 pub length-over : (s w : List ℕ) (place : ℕ) → place + length w ≤ length s → length (over place w s) ≡ length s

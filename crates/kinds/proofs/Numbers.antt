@@ -35,7 +35,7 @@ after-highFirst (suc k) a n =
     let i = after-highFirst k (a * 256 + n / 256 ^ k % 256) n in
     let w = worth k a (n / 256 ^ k % 256) in
     let m : n % 256 ^ suc k ≡ n / 256 ^ k % 256 * 256 ^ k + n % 256 ^ k =
-        ap (λ (x : ℕ). n % x) (pow-suc 256 k ∙ mul-comm (256 ^ k) 256) ∙ mod-mul n {m = 256} {c = 256 ^ k} (omega arith) (pow-pos k) in
+    ap (λ (x : ℕ). n % x) (pow-suc 256 k ∙ mul-comm (256 ^ k) 256) ∙ mod-mul n {m = 256} {c = 256 ^ k} (omega arith) (pow-pos k) in
     omega arith
 
 pub number-highFirst : (k n : ℕ) → n < 256 ^ k → numberOf (highFirst k n) ≡ n
@@ -55,7 +55,7 @@ highFirst-after [] a h = refl
 highFirst-after (d ∷ ds) a h =
     let k = length ds in
     let q : numberAfter 256 (a * 256 + d) ds / 256 ^ k ≡ a * 256 + d =
-        ap (λ (x : ℕ). x / 256 ^ k) (after-is ds (a * 256 + d)) ∙ digits-div (a * 256 + d) (number-lt 256 ds (h .1)) in
+    ap (λ (x : ℕ). x / 256 ^ k) (after-is ds (a * 256 + d)) ∙ digits-div (a * 256 + d) (number-lt 256 ds (h .1)) in
     let l : d < 256 = h .0 in
     let e : numberAfter 256 (a * 256 + d) ds / 256 ^ k % 256 ≡ d = ap (λ (x : ℕ). x % 256) q ∙ omega arith in
     λ i. e i ∷ highFirst-after ds (a * 256 + d) (h .1) i

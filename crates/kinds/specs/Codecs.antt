@@ -37,11 +37,11 @@ below count n = cond (ltb n count) (Some n) None
 -- the symbols are the numbers below a count, each written in so many bytes, high byte first
 abbrev pub numbersBelow : ℕ → ℕ → Codec
 numbersBelow count width = record {
-    width = width;
-    has = λ n. ltb n count;
-    bytes = highFirst width;
-    symbolOf = λ b. cond (eqb (length b) width) (below count (numberOf b)) None
-  }
+  width = width;
+  has = λ n. ltb n count;
+  bytes = highFirst width;
+  symbolOf = λ b. cond (eqb (length b) width) (below count (numberOf b)) None;
+}
 
 -- each of two statements gives the other
 abbrev pub Iff : Type 0 → Type 0 → Type 0

@@ -11,6 +11,9 @@ use std::cmp::Ordering;
 // How many letters there are.
 const COUNT: u32 = 1114112;
 
+// How many bytes a letter takes.
+const WIDTH: usize = 3;
+
 // A letter: a code point from 0 to 1,114,111. Values that differ by a multiple of their number are one letter.
 #[derive(Clone, Copy, Debug)]
 pub struct Letter {
@@ -22,7 +25,11 @@ impl Letter {
     pub fn new(code: u32) -> Option<Letter>
         ensures { λ r. ⌜ mapped codePoint r ≡ below 1114112 code ⌝ }
     {
-        if code < COUNT { Some(Letter { code }) } else { None }
+        if code < COUNT {
+            Some(Letter { code })
+        } else {
+            None
+        }
     }
 
     // The code point.
@@ -47,11 +54,11 @@ pub impl Written for Letter as LetterWritten {
     ghost codec = { letters };
 
     fn width() -> usize {
-        3
+        WIDTH
     }
 
     fn write(&self, out: &mut [u8]) -> bool {
-        if out.len() < 3 {
+        if out.len() < WIDTH {
             return false;
         }
         let [_, high, middle, low] = self.code().to_be_bytes();

@@ -9,6 +9,9 @@ use crate::kind::Written;
 use crate::kind::by_number;
 use std::cmp::Ordering;
 
+// How many bytes a pen element takes.
+const WIDTH: usize = 1;
+
 // The direction of a move, 0 to 15. The rules number the directions and name them no further.
 #[derive(Clone, Copy, Debug)]
 pub enum Direction {
@@ -89,7 +92,12 @@ impl LengthClass {
     pub fn number(self) -> u8
         ensures { λ r. ⌜ r ≡ classNumber self ⌝ ∗ ⌜ r < 4 ⌝ }
     {
-        self as u8
+        match self {
+            LengthClass::C0 => 0,
+            LengthClass::C1 => 1,
+            LengthClass::C2 => 2,
+            LengthClass::C3 => 3,
+        }
     }
 }
 
@@ -97,7 +105,10 @@ impl LengthClass {
 #[derive(Clone, Copy, Debug)]
 pub enum PenElement {
     Lift,
-    Move { direction: Direction, class: LengthClass },
+    Move {
+        direction: Direction,
+        class: LengthClass,
+    },
 }
 
 impl PenElement {
@@ -145,11 +156,11 @@ pub impl Written for PenElement as PenElementWritten {
     ghost codec = { penElements };
 
     fn width() -> usize {
-        1
+        WIDTH
     }
 
     fn write(&self, out: &mut [u8]) -> bool {
-        if out.is_empty() {
+        if out.len() < WIDTH {
             return false;
         }
         out[0] = self.number();

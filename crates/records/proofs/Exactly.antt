@@ -71,14 +71,19 @@ module _ (width place : ℕ) (b : List ℕ) (bytes : Bytes b) where
       let wide : length symbols ≡ m = length-take-le m (drop 16 b) (omega (arith, length-drop 16 b)) in
       let len : length (headBytes n size ++ symbols) ≡ 16 + m = omega arith in
       let whole : b ≡ (headBytes n size ++ symbols) ++ drop m (drop 16 b) =
-          th .is-head ∙ ap (λ t. headBytes n size ++ t) (sym (take-append-drop m (drop 16 b))) ∙ sym (append-assoc (headBytes n size) symbols (drop m (drop 16 b))) in
-      (record {
-        weight = th .weight; tag = th .tag; left = th .left; right = th .right; size-fits = th .size-fits;
-        wide = wide;
-        bytes = all-take (λ x. x < 256) m (drop 16 b) (all-drop (λ x. x < 256) 16 b bytes)
-       },
-       ap (take (length (headBytes n size ++ symbols))) whole ∙ take-at (headBytes n size ++ symbols) (drop m (drop 16 b)) (length (headBytes n size ++ symbols)) refl,
-       ap (λ (x : ℕ). place + x) (sym len))
+      th .is-head ∙ ap (λ t. headBytes n size ++ t) (sym (take-append-drop m (drop 16 b))) ∙ sym (append-assoc (headBytes n size) symbols (drop m (drop 16 b))) in (
+        record {
+          weight = th .weight;
+          tag = th .tag;
+          left = th .left;
+          right = th .right;
+          size-fits = th .size-fits;
+          wide = wide;
+          bytes = all-take (λ x. x < 256) m (drop 16 b) (all-drop (λ x. x < 256) 16 b bytes);
+        },
+        ap (take (length (headBytes n size ++ symbols))) whole ∙ take-at (headBytes n size ++ symbols) (drop m (drop 16 b)) (length (headBytes n size ++ symbols)) refl,
+        ap (λ (x : ℕ). place + x) (sym len),
+      )
 
   read-is : (r : Read) (c : Content) (next : ℕ) → _≡_ {A = Result Read Told} (Ok r) (Ok (record { content = c; next = next })) → There-is (r .content) (r .next) → There-is c next
   read-is r c next e th =
@@ -100,12 +105,13 @@ module _ (width place : ℕ) (b : List ℕ) (bytes : Bytes b) where
 
 pub reads-exactly : (width : ℕ) (sheet : List ℕ) (place : ℕ) → Bytes sheet → Reads-exactly width sheet place
 reads-exactly width sheet place hb c next =
-    let b = drop place sheet in
-    (stands width place b (all-drop (λ x. x < 256) place sheet hb) c next,
-     λ p.
-      (let w = recordBytes c in
-       let split : b ≡ w ++ drop (length w) b = sym (take-append-drop (length w) b) ∙ ap (λ t. t ++ drop (length w) b) (p .1) in
-       ap (recordIn width place) split ∙ reads width place c (drop (length w) b) (p .0) ∙ (λ j. Ok (record { content = c; next = sym (p .2) j }))))
+    let b = drop place sheet in (
+      stands width place b (all-drop (λ x. x < 256) place sheet hb) c next,
+      λ p.
+          (let w = recordBytes c in
+          let split : b ≡ w ++ drop (length w) b = sym (take-append-drop (length w) b) ∙ ap (λ t. t ++ drop (length w) b) (p .1) in
+          ap (recordIn width place) split ∙ reads width place c (drop (length w) b) (p .0) ∙ (λ j. Ok (record { content = c; next = sym (p .2) j }))),
+    )
 
 -- ---- what the call makes of a head
 module _ (width place size m : ℕ) (sheet : List ℕ) (n : Numbers) (wide : m ≡ size * width) (head : Ok (EntryHead n size) ≡ headAt sheet place) where
@@ -115,7 +121,7 @@ module _ (width place size m : ℕ) (sheet : List ℕ) (n : Numbers) (wide : m �
   entry-answered room =
       let b = drop place sheet in
       let t : take (place + 16 + m - (place + 16)) (drop (place + 16) sheet) ≡ take (size * width) (drop 16 b) =
-          (let k : place + 16 + m - (place + 16) ≡ size * width = omega arith in λ j. take (k j) (sym (drop-drop 16 place sheet) j)) in
+      (let k : place + 16 + m - (place + 16) ≡ size * width = omega arith in λ j. take (k j) (sym (drop-drop 16 place sheet) j)) in
       let e : place + 16 + m ≡ place + (16 + size * width) = omega arith in
       (λ j. Ok (record { content = entry n size (t j); next = e j }))
       ∙ sym (not-short place (16 + size * width) b (Ok (record { content = entry n size (take (size * width) (drop 16 b)); next = place + (16 + size * width) })) (omega (arith, length-drop place sheet)))

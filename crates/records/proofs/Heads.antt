@@ -58,14 +58,14 @@ picked false x o y h = inr h
 children-code : (n : ℕ) (c : Children) → childrenOf n ≡ Some c → n ≡ childCode c
 children-code n c h =
     elim (picked (eqb n 0) Neither _ c h) [
-      inl p ↦ eqb-true n 0 (p .0) ∙ ap childCode (p .1)
-    | inr h ↦ elim (picked (eqb n 1) Left _ c h) [
-        inl p ↦ eqb-true n 1 (p .0) ∙ ap childCode (p .1)
-      | inr h ↦ elim (picked (eqb n 2) Right _ c h) [
-          inl p ↦ eqb-true n 2 (p .0) ∙ ap childCode (p .1)
-        | inr h ↦ elim (picked (eqb n 3) Both None c h) [
-            inl p ↦ eqb-true n 3 (p .0) ∙ ap childCode (p .1)
-          | inr h ↦ absurd (let z : _≡_ {A = ℕ} 0 1 = cc in let y : ⊥ = omega arith in y)
+      | inl p ↦ eqb-true n 0 (p .0) ∙ ap childCode (p .1)
+      | inr h ↦ elim (picked (eqb n 1) Left _ c h) [
+        | inl p ↦ eqb-true n 1 (p .0) ∙ ap childCode (p .1)
+        | inr h ↦ elim (picked (eqb n 2) Right _ c h) [
+          | inl p ↦ eqb-true n 2 (p .0) ∙ ap childCode (p .1)
+          | inr h ↦ elim (picked (eqb n 3) Both None c h) [
+            | inl p ↦ eqb-true n 3 (p .0) ∙ ap childCode (p .1)
+            | inr h ↦ absurd (let z : _≡_ {A = ℕ} 0 1 = cc in let y : ⊥ = omega arith in y)
           ]
         ]
       ]
@@ -84,8 +84,8 @@ marked a b m h = at (eqb a 69) refl h
         rw (p .2) (eqb-true a 69 e, children-code b (p .0) (p .1))
     at false e k =
         elim (picked (eqb a 90 && eqb b 0) Closing None m k) [
-          inl p ↦ let q = and-parts (eqb a 90) (eqb b 0) (p .0) in rw (← p .1) (eqb-true a 90 (q .0), eqb-true b 0 (q .1))
-        | inr n ↦ absurd (let z : _≡_ {A = ℕ} 0 1 = cc in let y : ⊥ = omega arith in y)
+          | inl p ↦ let q = and-parts (eqb a 90) (eqb b 0) (p .0) in rw (← p .1) (eqb-true a 90 (q .0), eqb-true b 0 (q .1))
+          | inr n ↦ absurd (let z : _≡_ {A = ℕ} 0 1 = cc in let y : ⊥ = omega arith in y)
         ]
 
 pub mark-of-entry : (c : Children) → markOf 69 (childCode c) ≡ Some (Entry c)
@@ -151,7 +151,7 @@ entry-there b c hb h first second =
       tag = field-small b 6 4 hb (omega arith);
       left = field-small b 10 2 hb (omega arith);
       right = field-small b 12 2 hb (omega arith);
-      size-fits = field-small b 14 2 hb (omega arith)
+      size-fits = field-small b 14 2 hb (omega arith);
     }
 
 closing-there : (b : List ℕ) → Bytes b → 4 ≤ length b → getD b 0 0 ≡ 90 → getD b 1 0 ≡ 0 → Closing-there b (field 2 2 b)
@@ -159,7 +159,7 @@ closing-there b hb h first second =
     record {
       room = h;
       is-closing = marks-first b (omega arith) ∙ (λ j. first j ∷ (second j ∷ field-bytes b 2 2 hb (omega arith) j));
-      fits = field-small b 2 2 hb (omega arith)
+      fits = field-small b 2 2 hb (omega arith);
     }
 
 ok-is : {A : Type 0} (x y : A) → _≡_ {A = Result A Told} (Ok x) (Ok y) → x ≡ y

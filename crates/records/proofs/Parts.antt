@@ -11,6 +11,6 @@ use Rattle.std.proofs.shelf.Tests.{cases-lt}
 -- nothing stands past the end
 pub drop-to-end : (s : List ℕ) (i k : ℕ) → k ≡ min i (length s) → drop k s ≡ drop i s
 drop-to-end s i k e = elim (cases-lt i (length s)) [
-      inl h ↦ ap (λ (n : ℕ). drop n s) (omega arith)
-    | inr h ↦ drop-all k s (omega arith) ∙ sym (drop-all i s h)
-    ]
+  | inl h ↦ ap (λ (n : ℕ). drop n s) (omega arith)
+  | inr h ↦ drop-all k s (omega arith) ∙ sym (drop-all i s h)
+]

@@ -23,7 +23,7 @@ not-put width c place s h =
     record {
       next = sym (cond-false (fitsAt c s place) (Some (place + length (recordBytes c))) None h);
       buffer = sym (cond-false (fitsAt c s place) (over place (recordBytes c) s) s h);
-      reads-back = tt
+      reads-back = tt;
     }
 
 pub put : (width : ℕ) (c : Content) (place next : ℕ) (s out : List ℕ) → Proper width c → sizeFits c ≡ true → next ≡ place + length (recordBytes c) → next ≤ length s
@@ -36,10 +36,10 @@ put width c place next s out proper fits is room wrote =
       next = ap (λ (n : ℕ). Some n) is ∙ sym (cond-true (fitsAt c s place) (Some (place + length w)) None t);
       buffer = e ∙ sym (cond-true (fitsAt c s place) (over place w s) s t);
       reads-back =
-        ap (λ b. recordIn width place (drop place b)) e
-        ∙ ap (recordIn width place) (over-stands s w place (omega arith))
-        ∙ reads width place c (drop (place + length w) s) proper
-        ∙ (λ i. Ok (record { content = c; next = sym is i }))
+          ap (λ b. recordIn width place (drop place b)) e
+          ∙ ap (recordIn width place) (over-stands s w place (omega arith))
+          ∙ reads width place c (drop (place + length w) s) proper
+          ∙ (λ i. Ok (record { content = c; next = sym is i }));
     }
 
 -- what the test for room answered

@@ -38,7 +38,9 @@ pub fn read_head(sheet: &[u8], at: usize) -> Result<Head, Refusal>
             if bytes.len() < 4 {
                 return Err(Refusal::RecordEnds { place: at });
             }
-            Ok(Head::ClosingHead { count: two_at(bytes, 2) })
+            Ok(Head::ClosingHead {
+                count: two_at(bytes, 2),
+            })
         }
         Mark::Entry(children) => {
             if bytes.len() < 16 {
@@ -61,7 +63,10 @@ pub fn read_head(sheet: &[u8], at: usize) -> Result<Head, Refusal>
 
 // The record at a place of a sheet of the kind S, and the place after it.
 // It is refused with 11 where the bytes end in the record, and with 12 for a mark that no record has; nothing else is checked.
-pub fn read_record<'a, S: Written>(sheet: &'a [u8], at: usize) -> Result<(Record<'a>, usize), Refusal>
+pub fn read_record<'a, S: Written>(
+    sheet: &'a [u8],
+    at: usize,
+) -> Result<(Record<'a>, usize), Refusal>
     ensures value { λ r. ⌜ answered readOf r ≡ recordAt (S·Written .codec .width) (now (sheet .entry)) at ⌝ }
     ensures part { λ r. ⌜ Part-of (sheet .entry) at r ⌝ }
     ensures exactly { λ _. ⌜ Reads-exactly (S·Written .codec .width) (now (sheet .entry)) at ⌝ }

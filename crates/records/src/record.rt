@@ -25,6 +25,12 @@ pub enum Head {
 // A record of a sheet, with its symbol bytes as that very part of the sheet.
 #[derive(Clone, Copy, Debug)]
 pub enum Record<'a> {
-    Entry { numbers: Numbers, length: u16, symbols: &'a [u8] },
-    Closing { count: u16 },
+    Entry {
+        numbers: Numbers,
+        length: u16,
+        symbols: &'a [u8],
+    },
+    Closing {
+        count: u16,
+    },
 }

@@ -78,7 +78,12 @@ fn put_entry<S: Written>(rest: &mut [u8], numbers: Numbers, size: u16, word: &[S
 
 // Writes an entry's record into a buffer from a place on, and answers the place after it.
 // Where the record has no room there, or the word is too long for its two length bytes, it answers none and writes nothing.
-pub fn write_entry<S: Written>(sheet: &mut [u8], at: usize, numbers: Numbers, word: &[S]) -> Option<usize>
+pub fn write_entry<S: Written>(
+    sheet: &mut [u8],
+    at: usize,
+    numbers: Numbers,
+    word: &[S],
+) -> Option<usize>
     ensures { λ r. ⌜ Puts (S·Written .codec .width) (entryOf (S·Written .codec) numbers (map (S·Ordered .symbol) (now (word .entry)))) at (now (sheet .entry)) (now (sheet .exit)) r ⌝ }
 {
     if word.len() > LONGEST {

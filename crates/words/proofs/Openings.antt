@@ -61,9 +61,9 @@ looked-counts u v = elim (counts u v) [ inl c ↦ inl (c .0) | inr c ↦ inr (c 
 
 pub looked-ends : (u v : List ℕ) → Iff (looked u v ≡ shared u v) ((shared u v ≡ length u) ⊎ (shared u v ≡ length v))
 looked-ends u v = elim (counts u v) [
-      inl c ↦ (λ _. c .1, λ _. c .0)
-    | inr c ↦ (λ h. absurd (let z : ⊥ = omega arith in z), λ h. absurd (elim h [ inl e ↦ omega arith | inr e ↦ omega arith ]))
-    ]
+  | inl c ↦ (λ _. c .1, λ _. c .0)
+  | inr c ↦ (λ h. absurd (let z : ⊥ = omega arith in z), λ h. absurd (elim h [ inl e ↦ omega arith | inr e ↦ omega arith ]))
+]
 
 -- the pair in front, by the order of the kind
 abbrev pub sharedAt : Ordering → ℕ → ℕ

@@ -71,7 +71,7 @@ module _ (order : ℕ → ℕ → Ordering) (u v : List ℕ) (s : ℕ) where
           onward = (let h = a .onward in omega arith);
           stand = a .stand ∙ stand-front ∙ ap (λ (p : Ordering). thenBy p (wordOrder order (drop (at + 1) u) (drop (at + 1) v))) e;
           share = (let h = a .share in omega arith);
-          look = (let h = a .look in omega arith)
+          look = (let h = a .look in omega arith);
         }
 
     -- a pair that differs decides, ends the shared opening and is the last looked at
@@ -113,7 +113,7 @@ ends order u v s at p a e h =
     let lu = length-drop at u in
     let lv = length-drop at v in
     let l : Ranked p (length (drop at u) < length (drop at v)) (length (drop at u) ≡ length (drop at v)) (length (drop at v) < length (drop at u)) =
-        rw (lu, lv) (left p (length u) (length v) at (omega arith) (omega arith) h) in
+    rw (lu, lv) (left p (length u) (length v) at (omega arith) (omega arith) h) in
     let k = ended order (drop at u) (drop at v) p l (omega arith) in
     (let z : at - s ≡ at - s + 0 = omega arith in λ j. record { answer = p; share = at; pairs = z j }) ∙ done order u v s at 0 p a (k .0) (k .1) (k .2)
 
@@ -142,5 +142,5 @@ module _ (order : ℕ → ℕ → Ordering) (law : Lawful order) (u v : List ℕ
         after = rw a (greater-is-after order law u v);
         longest = λ n. rw s (shared-is-longest n u v);
         counted = rw (p, s) (looked-counts u v);
-        ended = rw (p, s) (looked-ends u v)
+        ended = rw (p, s) (looked-ends u v);
       }

@@ -38,7 +38,8 @@ pub impl<S: Ordered> Comparer<S> for Counter as CounterComparer {
     ghost asked = { λ c. c .count };
 
     fn ask(&mut self, a: &S, b: &S) -> Ordering {
-        self.count = self.count.saturating_add(1);
+        let Counter { count } = self;
+        *count = count.saturating_add(1);
         a.compare(b)
     }
 }

@@ -21,7 +21,12 @@ pub struct Comparison {
 
 // Compares two words from a position on, which is to lie in their shared opening, by asking a lent comparer.
 // A position past the end of a word counts as that end.
-pub fn compare_from<S: Ordered, C: Comparer<S>>(a: &[S], b: &[S], from: usize, comparer: &mut C) -> Comparison
+pub fn compare_from<S: Ordered, C: Comparer<S>>(
+    a: &[S],
+    b: &[S],
+    from: usize,
+    comparer: &mut C,
+) -> Comparison
     ensures value { λ r. ⌜ r ≡ comparedFrom (S·Ordered .order) from (map (S·Ordered .symbol) (now (a .entry))) (map (S·Ordered .symbol) (now (b .entry))) ⌝ }
     ensures whole { λ r. ⌜ As-from-the-start (S·Ordered .order) from (map (S·Ordered .symbol) (now (a .entry))) (map (S·Ordered .symbol) (now (b .entry))) r ⌝ }
     ensures asked { λ r. ⌜ (C·Comparer .asked (now (comparer .entry)) + r .pairs < 2 ^ 32 → C·Comparer .asked (now (comparer .exit)) ≡ C·Comparer .asked (now (comparer .entry)) + r .pairs) ⌝ }

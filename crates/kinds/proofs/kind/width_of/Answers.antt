@@ -11,5 +11,5 @@ returns g c =
       value = c .width .ensures;
       bound = (omega arith, omega arith);
       inverse = law;
-      refuses = refuses-exactly (g .S·Written .codec) law
+      refuses = refuses-exactly (g .S·Written .codec) law;
     }

@@ -26,7 +26,7 @@ returns-in-Break-count g c =
     (record {
       value = ap (withSymbols width at (drop at sheet)) (c .in-Break-count .ensures tt .value);
       part = tt;
-      exactly = reads-exactly width sheet at (bytes-typed sheet (c .typed .sheet))
+      exactly = reads-exactly width sheet at (bytes-typed sheet (c .typed .sheet));
     })
 
 pub returns-in-ClosingHead : need.returns-in-ClosingHead
@@ -38,7 +38,7 @@ returns-in-ClosingHead g c =
     record {
       value = ap (withSymbols width at (drop at sheet)) h;
       part = tt;
-      exactly = reads-exactly width sheet at (bytes-typed sheet (c .typed .sheet))
+      exactly = reads-exactly width sheet at (bytes-typed sheet (c .typed .sheet));
     }
 
 pub returns-then-sheet-from : need.returns-then-sheet-from
@@ -52,7 +52,7 @@ returns-then-sheet-from g c =
     record {
       value = entry-cut-short width at size (size * c .width-of .result) sheet (c .in-EntryHead .numbers) wide h (omega arith);
       part = tt;
-      exactly = reads-exactly width sheet at (bytes-typed sheet (c .typed .sheet))
+      exactly = reads-exactly width sheet at (bytes-typed sheet (c .typed .sheet));
     }
 
 pub returns-else-sheet-from : need.returns-else-sheet-from
@@ -67,5 +67,5 @@ returns-else-sheet-from g c =
     record {
       value = entry-answered width at size (size * c .width-of .result) sheet (c .in-EntryHead .numbers) wide h (omega arith);
       part = (refl, search needs);
-      exactly = reads-exactly width sheet at (bytes-typed sheet (c .typed .sheet))
+      exactly = reads-exactly width sheet at (bytes-typed sheet (c .typed .sheet));
     }

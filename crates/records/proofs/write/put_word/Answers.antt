@@ -54,11 +54,12 @@ loop-symbol-again g c =
     let lent : List ℕ = take (length rest - at) (drop at rest) in
     let fits : width ≤ length lent = simp (take-rest, length-drop) (omega arith) in
     let wrote : c .write .last .out ≡ over 0 next lent =
-        c .write .ensures .after ∙ cond-true (c .write .result) (over 0 next lent) lent (c .write .ensures .room ∙ le-leb width (length lent) fits) in
-    let m : (i + 1) * width ≡ i * width + 1 * width = add-mul i 1 width in
-    (omega (arith, c .width-of-width .ensures .value),
-     over-next (c .args .rest .now) done next rest (c .write .last .out) 0 at (c .loop-symbol .inv .1) (omega arith) (omega arith) wrote
-     ∙ ap (λ t. over 0 t (c .args .rest .now)) (sym (joined-step f symbol word i (c .symbol-item .result) (omega arith) (c .symbol-item .is))))
+    c .write .ensures .after ∙ cond-true (c .write .result) (over 0 next lent) lent (c .write .ensures .room ∙ le-leb width (length lent) fits) in
+    let m : (i + 1) * width ≡ i * width + 1 * width = add-mul i 1 width in (
+      omega (arith, c .width-of-width .ensures .value),
+      over-next (c .args .rest .now) done next rest (c .write .last .out) 0 at (c .loop-symbol .inv .1) (omega arith) (omega arith) wrote
+          ∙ ap (λ t. over 0 t (c .args .rest .now)) (sym (joined-step f symbol word i (c .symbol-item .result) (omega arith) (c .symbol-item .is))),
+    )
 
 pub returns : need.returns
 returns g c =

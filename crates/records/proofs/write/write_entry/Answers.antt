@@ -42,7 +42,7 @@ returns-in-Break-next g c =
     let h = no-room (c .args .at + (16 + length (c .args .word .now) * c .width-of .result)) (length (c .args .sheet .now)) (c .in-Break-next .ensures tt) in
     rw (c .from-residual .ensures)
     (not-put (codec .width) content (c .args .at) (c .args .sheet .now)
-      (and-right (sizeFits content) (leb (c .args .at + length (recordBytes content)) (length (c .args .sheet .now))) (ap (λ (n : ℕ). leb (c .args .at + n) (length (c .args .sheet .now))) len ∙ h)))
+    (and-right (sizeFits content) (leb (c .args .at + length (recordBytes content)) (length (c .args .sheet .now))) (ap (λ (n : ℕ). leb (c .args .at + n) (length (c .args .sheet .now))) len ∙ h)))
 
 pub returns : need.returns
 returns g c =
@@ -56,15 +56,15 @@ returns g c =
     let len = record-length codec law (c .args .numbers) word (length (c .args .word .now)) (c .width-of .result) l (c .width-of .ensures .value) in
     let h = room-there (c .args .at + (16 + length (c .args .word .now) * c .width-of .result)) (length (c .args .sheet .now)) (c .in-Continue-next .next) (c .in-Continue-next .ensures tt) in
     let proper : Proper-entry (codec .width) (c .args .numbers) (length word) (joined (codec .bytes) word) =
-        record {
-          weight = search needs;
-          tag = search needs;
-          left = search needs;
-          right = search needs;
-          size-fits = small;
-          wide = length-joined (codec .bytes) (codec .width) (law .wide) word;
-          bytes = bytes-joined (codec .bytes) (law .small) word
-        } in
+    record {
+      weight = search needs;
+      tag = search needs;
+      left = search needs;
+      right = search needs;
+      size-fits = small;
+      wide = length-joined (codec .bytes) (codec .width) (law .wide) word;
+      bytes = bytes-joined (codec .bytes) (law .small) word;
+    } in
     put (codec .width) content (c .args .at) (c .in-Continue-next .next) (c .args .sheet .now) (c .put-entry .last .rest) proper
     (lt-ltb (length word) 65536 (omega arith)) (h .0 ∙ ap (λ (n : ℕ). c .args .at + n) (sym len)) (omega (arith, h .0, h .1))
     (c .put-entry .ensures ∙ ap (λ (n : ℕ). over 0 (headBytes (c .args .numbers) n ++ joined (codec .bytes) word) (take (length (c .args .sheet .now) - c .args .at) (drop (c .args .at) (c .args .sheet .now)))) (sym l))

@@ -24,15 +24,16 @@ loop-at-again g c =
     let a = c .args .a .now in
     let b = c .args .b .now in
     let la : at < length a = omega arith in
-    let lb : at < length b = omega arith in
-    (agreed-more (g .S·Ordered .order) (map symbol a) (map symbol b) (c .min-start .result) (g .S·Ordered·met .lawful) at (symbol (c .index-a-at .result)) (symbol (c .index-b-at .result))
-      (cut symbol a at (c .index-a-at .result) la (c .index-a-at .is)) (cut symbol b at (c .index-b-at .result) lb (c .index-b-at .is))
-      (c .loop-at .inv .0) (sym (c .ask .ensures .answers) ∙ c .in-Equal .is),
-     λ q.
-      (let o = c .loop-at .inv .0 .onward in
-       let e = c .loop-at .inv .1 (omega arith) in
-       let f = c .ask .ensures .counts (omega arith) in
-       omega arith))
+    let lb : at < length b = omega arith in (
+      agreed-more (g .S·Ordered .order) (map symbol a) (map symbol b) (c .min-start .result) (g .S·Ordered·met .lawful) at (symbol (c .index-a-at .result)) (symbol (c .index-b-at .result))
+          (cut symbol a at (c .index-a-at .result) la (c .index-a-at .is)) (cut symbol b at (c .index-b-at .result) lb (c .index-b-at .is))
+          (c .loop-at .inv .0) (sym (c .ask .ensures .answers) ∙ c .in-Equal .is),
+      λ q.
+          (let o = c .loop-at .inv .0 .onward in
+          let e = c .loop-at .inv .1 (omega arith) in
+          let f = c .ask .ensures .counts (omega arith) in
+          omega arith),
+    )
 
 pub returns-in-rest : need.returns-in-rest
 returns-in-rest g c =
@@ -45,17 +46,17 @@ returns-in-rest g c =
     let la : at < length a = omega arith in
     let lb : at < length b = omega arith in
     let d = differs order (map symbol a) (map symbol b) (c .min-start .result) law at (symbol (c .index-a-at .result)) (symbol (c .index-b-at .result))
-        (cut symbol a at (c .index-a-at .result) la (c .index-a-at .is)) (cut symbol b at (c .index-b-at .result) lb (c .index-b-at .is))
-        (c .loop-at .inv .0) (c .ask .result) (c .ask .ensures .answers) (c .in-rest .not-Equal) in
+    (cut symbol a at (c .index-a-at .result) la (c .index-a-at .is)) (cut symbol b at (c .index-b-at .result) lb (c .index-b-at .is))
+    (c .loop-at .inv .0) (c .ask .result) (c .ask .ensures .answers) (c .in-rest .not-Equal) in
     let v = from-start order (c .args .from) (map symbol a) (map symbol b) (c .min-start .result) _ (starts symbol a b (c .args .from) (c .min-end .result) (c .min-start .result) (c .min-end .ensures) (c .min-start .ensures)) d in
     record {
       value = v;
       whole = as-from-the-start order law (map symbol a) (map symbol b) (c .args .from) _ v;
       asked = λ q.
-        (let o = c .loop-at .inv .0 .onward in
-         let e = c .loop-at .inv .1 (omega arith) in
-         let f = c .ask .ensures .counts (omega arith) in
-         omega arith)
+          (let o = c .loop-at .inv .0 .onward in
+          let e = c .loop-at .inv .1 (omega arith) in
+          let f = c .ask .ensures .counts (omega arith) in
+          omega arith);
     }
 
 pub returns : need.returns
@@ -74,5 +75,5 @@ returns g c =
     record {
       value = v;
       whole = as-from-the-start order law (map symbol a) (map symbol b) (c .args .from) _ v;
-      asked = λ q. (let e = c .loop-at .inv .1 (omega arith) in omega arith)
+      asked = λ q. (let e = c .loop-at .inv .1 (omega arith) in omega arith);
     }

@@ -6,5 +6,5 @@ pub returns : need.returns
 returns g c =
     record {
       value = c .compare-from .ensures .value;
-      tells = tells (g .S·Ordered .order) (g .S·Ordered·met .lawful) (map (g .S·Ordered .symbol) (c .args .a .now)) (map (g .S·Ordered .symbol) (c .args .b .now)) _ (c .compare-from .ensures .value)
+      tells = tells (g .S·Ordered .order) (g .S·Ordered·met .lawful) (map (g .S·Ordered .symbol) (c .args .a .now)) (map (g .S·Ordered .symbol) (c .args .b .now)) _ (c .compare-from .ensures .value);
     }
