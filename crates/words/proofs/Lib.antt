@@ -1,3 +1,4 @@
 pub mod Orders
 pub mod Openings
+pub mod Sharing
 pub mod Steps

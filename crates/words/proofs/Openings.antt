@@ -95,6 +95,7 @@ module _ (order : ℕ → ℕ → Ordering) (law : Lawful order) where
   pub record From (k : ℕ) (u v : List ℕ) : Type 0 where
     pub stand : wordOrder order (drop k u) (drop k v) ≡ wordOrder order u v
     pub share : k + shared (drop k u) (drop k v) ≡ shared u v
+    pub look : k + looked (drop k u) (drop k v) ≡ looked u v
 
   from-at : (x y k : ℕ) (u v : List ℕ) (p : Ordering) → order x y ≡ p → (k ≤ shared u v → From k u v) → suc k ≤ sharedAt p (shared u v) → From (suc k) (x ∷ u) (y ∷ v)
   from-at x y k u v Less ep i h = absurd (not-suc-le-zero h)
@@ -102,10 +103,15 @@ module _ (order : ℕ → ℕ → Ordering) (law : Lawful order) where
   from-at x y k u v Equal ep i h =
       let f = i (le-of-suc-le-suc h) in
       let e : shared (x ∷ u) (y ∷ v) ≡ suc (shared u v) = shared-front x y u v ∙ ap (λ (p : Ordering). sharedAt p (shared u v)) ep in
-      record { stand = rw ep (f .stand); share = rw e (let g = f .share in omega arith) }
+      let d : looked (x ∷ u) (y ∷ v) ≡ suc (looked u v) = looked-front x y u v ∙ ap (λ (p : Ordering). lookedAt p (looked u v)) ep in
+      record {
+        stand = rw ep (f .stand);
+        share = rw e (let g = f .share in omega arith);
+        look = rw d (let g = f .look in omega arith);
+      }
 
   pub from-position : (k : ℕ) (u v : List ℕ) → k ≤ shared u v → From k u v
-  from-position zero u v h = record { stand = refl; share = omega arith }
+  from-position zero u v h = record { stand = refl; share = omega arith; look = omega arith }
   from-position (suc k) [] v h = absurd (not-suc-le-zero h)
   from-position (suc k) (x ∷ u) [] h = absurd (not-suc-le-zero h)
   from-position (suc k) (x ∷ u) (y ∷ v) h = from-at x y k u v (order x y) refl (from-position k u v) (rw (shared-front x y u v) at h)

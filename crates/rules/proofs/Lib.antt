@@ -1,0 +1,6 @@
+pub mod Lists
+pub mod Ranks
+pub mod Trees
+pub mod Places
+pub mod Ancestors
+pub mod Walks

@@ -1,0 +1,5 @@
+pub mod Entries
+pub mod Held
+pub mod Trees
+pub mod Lookups
+pub mod Walks
