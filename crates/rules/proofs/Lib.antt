@@ -4,3 +4,4 @@ pub mod Trees
 pub mod Places
 pub mod Ancestors
 pub mod Walks
+pub mod Inserts

@@ -3,3 +3,4 @@ pub mod Held
 pub mod Trees
 pub mod Lookups
 pub mod Walks
+pub mod Inserts
