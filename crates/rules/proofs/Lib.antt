@@ -5,3 +5,4 @@ pub mod Places
 pub mod Ancestors
 pub mod Walks
 pub mod Inserts
+pub mod Steps

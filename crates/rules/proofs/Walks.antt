@@ -209,7 +209,7 @@ module _ (order : ℕ → ℕ → Ordering) (law : Lawful order) where
     abbrev ka : ℕ
     ka = sharedWithEntry w hi
 
-    compared-here : compared order w (e .word) (ltb ka kb) (max kb ka) (cond (ltb ka kb) m n) ≡ Told w (e .word) (pairsAt order es w e)
+    pub compared-here : compared order w (e .word) (ltb ka kb) (max kb ka) (cond (ltb ka kb) m n) ≡ Told w (e .word) (pairsAt order es w e)
     compared-here =
         compared-near lo hi w (e .word) kb ka m n refl refl (x .0) (x .1) (low-of b lo w low) low-top (high-of hi a w high) high-top
         ∙ ap (Told w (e .word)) (sym pairs-here)

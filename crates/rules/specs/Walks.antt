@@ -38,10 +38,14 @@ module _ (order : ℕ → ℕ → Ordering) where
       (cond (ltb kept stored) (record { answer = cond isBefore Greater Less; share = kept; pairs = 0 })
       (comparedFrom order kept w v))
 
-  -- The lookup by steps: kb and ka are what the sought word shares with the nearest entries met before and after it, 0 without one.
-  -- The side is before exactly if kb is larger, and the kept length is the larger of the two.
+  -- One step, at an entry with the lengths m and n: kb and ka are what the sought word shares with the nearest entries met before and after it, 0 without one.
+  -- The side is before exactly if kb is larger; then the left length counts, else the right one. The kept length is the larger of kb and ka.
+  abbrev pub stepAt : List ℕ → ℕ → ℕ → Entry → ℕ → ℕ → Comparison
+  stepAt w kb ka e m n = compared w (e .word) (ltb ka kb) (max kb ka) (cond (ltb ka kb) m n)
+
+  -- The lookup by steps: left where the sought word is before the entry, right where it is after, until it is met or nothing is left.
   abbrev pub lookup : List ℕ → ℕ → ℕ → Tree → Walked
   lookup w kb ka nothing = record { way = []; pairs = 0; found = None }
   lookup w kb ka (top l e m n r) =
-      let c = compared w (e .word) (ltb ka kb) (max kb ka) (cond (ltb ka kb) m n) in
+      let c = stepAt w kb ka e m n in
       after e (c .pairs) (turned (c .answer) (lookup w kb (c .share) l) (record { way = []; pairs = 0; found = Some e }) (lookup w (c .share) ka r))
