@@ -92,7 +92,7 @@ module _ (order : ℕ → ℕ → Ordering) (law : Lawful order) where
       let q = share-is es b lo l e m n r hi a w k in
       let kb = sharedWithEntry w lo in
       let ka = sharedWithEntry w hi in
-      (λ i. turned (p i) (lesserBy order w kb (q i) l) (lesserBy order w kb (q i) l) (top l e m (q i) (lesserBy order w (q i) ka r)))
+      (λ i. cond (isGt (p i)) (top l e m (q i) (lesserBy order w (q i) ka r)) (lesserBy order w kb (q i) l))
       ∙ at (wordOrder order w (e .word)) refl
       (λ h. lesser-is es b lo l (Some e) (entries r ++ onFrom hi a) w (lacks-left w l e r lacks) (goes-left es b lo l e m n r hi a w k h))
       (λ h. lesser-is es (upTo b lo ++ entries l) (Some e) r hi a w (lacks-right w l e r lacks) (goes-right es b lo l e m n r hi a w k h))
@@ -100,7 +100,7 @@ module _ (order : ℕ → ℕ → Ordering) (law : Lawful order) where
       at : (o : Ordering) → wordOrder order w (e .word) ≡ o
           → (wordOrder order w (e .word) ≡ Less → lesserBy order w (sharedWithEntry w lo) (shared w (e .word)) l ≡ lesser order w l)
           → (wordOrder order (e .word) w ≡ Less → lesserBy order w (shared w (e .word)) (sharedWithEntry w hi) r ≡ lesser order w r)
-          → turned o (lesserBy order w (sharedWithEntry w lo) (shared w (e .word)) l) (lesserBy order w (sharedWithEntry w lo) (shared w (e .word)) l) (top l e m (shared w (e .word)) (lesserBy order w (shared w (e .word)) (sharedWithEntry w hi) r))
+          → cond (isGt o) (top l e m (shared w (e .word)) (lesserBy order w (shared w (e .word)) (sharedWithEntry w hi) r)) (lesserBy order w (sharedWithEntry w lo) (shared w (e .word)) l)
           ≡ turned o (lesser order w l) (lesser order w l) (top l e m (shared w (e .word)) (lesser order w r))
       at Less h i j = i h
       at Equal h i j = never-same w l e r lacks h
@@ -114,7 +114,7 @@ module _ (order : ℕ → ℕ → Ordering) (law : Lawful order) where
       let q = share-is es b lo l e m n r hi a w k in
       let kb = sharedWithEntry w lo in
       let ka = sharedWithEntry w hi in
-      (λ i. turned (p i) (top (greaterBy order w kb (q i) l) e (q i) n r) (greaterBy order w (q i) ka r) (greaterBy order w (q i) ka r))
+      (λ i. cond (isGt (p i)) (greaterBy order w (q i) ka r) (top (greaterBy order w kb (q i) l) e (q i) n r))
       ∙ at (wordOrder order w (e .word)) refl
       (λ h. greater-is es b lo l (Some e) (entries r ++ onFrom hi a) w (lacks-left w l e r lacks) (goes-left es b lo l e m n r hi a w k h))
       (λ h. greater-is es (upTo b lo ++ entries l) (Some e) r hi a w (lacks-right w l e r lacks) (goes-right es b lo l e m n r hi a w k h))
@@ -122,7 +122,7 @@ module _ (order : ℕ → ℕ → Ordering) (law : Lawful order) where
       at : (o : Ordering) → wordOrder order w (e .word) ≡ o
           → (wordOrder order w (e .word) ≡ Less → greaterBy order w (sharedWithEntry w lo) (shared w (e .word)) l ≡ greater order w l)
           → (wordOrder order (e .word) w ≡ Less → greaterBy order w (shared w (e .word)) (sharedWithEntry w hi) r ≡ greater order w r)
-          → turned o (top (greaterBy order w (sharedWithEntry w lo) (shared w (e .word)) l) e (shared w (e .word)) n r) (greaterBy order w (shared w (e .word)) (sharedWithEntry w hi) r) (greaterBy order w (shared w (e .word)) (sharedWithEntry w hi) r)
+          → cond (isGt o) (greaterBy order w (shared w (e .word)) (sharedWithEntry w hi) r) (top (greaterBy order w (sharedWithEntry w lo) (shared w (e .word)) l) e (shared w (e .word)) n r)
           ≡ turned o (top (greater order w l) e (shared w (e .word)) n r) (greater order w r) (greater order w r)
       at Less h i j = ap (λ (z : Tree). top z e (shared w (e .word)) n r) (i h)
       at Equal h i j = never-same w l e r lacks h
@@ -143,7 +143,7 @@ module _ (order : ℕ → ℕ → Ordering) (law : Lawful order) where
       let left = lesser-is es b lo s hi a w lacks k in
       let right = greater-is es b lo s hi a w lacks k in
       (λ i. cond (u i)
-      (turned (p i) (top (insertedBy order x kb (q i) l) f m n r) s (top l f m n (insertedBy order x (q i) ka r)))
+      (cond (isGt (p i)) (top l f m n (insertedBy order x (q i) ka r)) (top (insertedBy order x kb (q i) l) f m n r))
       (top (left i) x kb ka (right i)))
       ∙ ap (λ (z : Tree). cond (outranks order f x) z (top (lesser order w s) x kb ka (greater order w s)))
       (at (wordOrder order w (f .word)) refl
@@ -153,10 +153,10 @@ module _ (order : ℕ → ℕ → Ordering) (law : Lawful order) where
       at : (o : Ordering) → wordOrder order (x .word) (f .word) ≡ o
           → (wordOrder order (x .word) (f .word) ≡ Less → insertedBy order x (sharedWithEntry (x .word) lo) (shared (x .word) (f .word)) l ≡ inserted order x (sharedWithEntry (x .word) lo) (shared (x .word) (f .word)) l)
           → (wordOrder order (f .word) (x .word) ≡ Less → insertedBy order x (shared (x .word) (f .word)) (sharedWithEntry (x .word) hi) r ≡ inserted order x (shared (x .word) (f .word)) (sharedWithEntry (x .word) hi) r)
-          → turned o (top (insertedBy order x (sharedWithEntry (x .word) lo) (shared (x .word) (f .word)) l) f m n r) (top l f m n r) (top l f m n (insertedBy order x (shared (x .word) (f .word)) (sharedWithEntry (x .word) hi) r))
+          → cond (isGt o) (top l f m n (insertedBy order x (shared (x .word) (f .word)) (sharedWithEntry (x .word) hi) r)) (top (insertedBy order x (sharedWithEntry (x .word) lo) (shared (x .word) (f .word)) l) f m n r)
           ≡ turned o (top (inserted order x (sharedWithEntry (x .word) lo) (shared (x .word) (f .word)) l) f m n r) (top l f m n r) (top l f m n (inserted order x (shared (x .word) (f .word)) (sharedWithEntry (x .word) hi) r))
       at Less h i j = ap (λ (z : Tree). top z f m n r) (i h)
-      at Equal h i j = refl
+      at Equal h i j = never-same (x .word) l f r lacks h
       at Greater h i j = ap (λ (z : Tree). top l f m n z) (j (before-of-after order law (x .word) (f .word) h))
 
   -- the tree of a list, with an entry put in by steps, is the tree of the list with it

@@ -40,13 +40,13 @@ module _ (order : ℕ → ℕ → Ordering) where
   lesserBy w kb ka nothing = nothing
   lesserBy w kb ka (top l e m n r) =
       let c = stepAt order w kb ka e m n in
-      turned (c .answer) (lesserBy w kb (c .share) l) (lesserBy w kb (c .share) l) (top l e m (c .share) (lesserBy w (c .share) ka r))
+      cond (isGt (c .answer)) (top l e m (c .share) (lesserBy w (c .share) ka r)) (lesserBy w kb (c .share) l)
 
   abbrev pub greaterBy : List ℕ → ℕ → ℕ → Tree → Tree
   greaterBy w kb ka nothing = nothing
   greaterBy w kb ka (top l e m n r) =
       let c = stepAt order w kb ka e m n in
-      turned (c .answer) (top (greaterBy w kb (c .share) l) e (c .share) n r) (greaterBy w (c .share) ka r) (greaterBy w (c .share) ka r)
+      cond (isGt (c .answer)) (greaterBy w (c .share) ka r) (top (greaterBy w kb (c .share) l) e (c .share) n r)
 
   -- f outranks e, where c says how e's word stands to f's
   abbrev pub staysAbove : Entry → Entry → Comparison → Bool
@@ -57,5 +57,5 @@ module _ (order : ℕ → ℕ → Ordering) where
   insertedBy e kb ka (top l f m n r) =
       let c = stepAt order (e .word) kb ka f m n in
       cond (staysAbove f e c)
-      (turned (c .answer) (top (insertedBy e kb (c .share) l) f m n r) (top l f m n r) (top l f m n (insertedBy e (c .share) ka r)))
+      (cond (isGt (c .answer)) (top l f m n (insertedBy e (c .share) ka r)) (top (insertedBy e kb (c .share) l) f m n r))
       (top (lesserBy (e .word) kb ka (top l f m n r)) e kb ka (greaterBy (e .word) kb ka (top l f m n r)))
