@@ -1,0 +1,6 @@
+use mathlib.Core.Path.{refl}
+use Rattle.dictionary.proofs.Runs.{sums-up}
+use Rattle.dictionary.proofs.tally.OpenTally.new.Needs as need
+
+pub returns : need.returns
+returns c = record { value = refl; runs = sums-up }
