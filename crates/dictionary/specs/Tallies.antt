@@ -2,7 +2,7 @@
 use mathlib.Core.Path.{_≡_}
 use mathlib.Core.Bool.{cond}
 use mathlib.Core.List.{List, [], _∷_}
-use Prim.Native.Nat.{ℕ, _+_, _*_, _^_, _≤_, _<_}
+use Prim.Native.Nat.{ℕ, _+_, _*_, _-_, _^_, _≤_}
 use lib.Dec.{ltb}
 use lib.ListN.{length, take}
 use Rattle.std.specs.declared.result.Result.{Result}
@@ -49,7 +49,7 @@ postedAs (Err full) = Err (givenBack full)
 
 -- What holds of every open tally, since a slip carries numbers of 32 bits: no sum outgrows 64 bits.
 abbrev pub Within : Sums → Type 0
-Within s = (s .lookups ≤ most) × (s .met ≤ s .lookups * 4294967295) × (s .pairs ≤ s .lookups * 4294967295)
+Within s = (s .lookups ≤ most) × (s .met ≤ s .lookups * (2 ^ 32 - 1)) × (s .pairs ≤ s .lookups * (2 ^ 32 - 1))
 
 -- ---- whole runs
 

@@ -4,7 +4,7 @@ ghost use Rattle.dictionary.specs.Tallies.{Sums-up, Within, givenBack, noLooku
 // An open tally takes this many slips.
 const MOST_LOOKUPS: u32 = 1_000_000;
 
-// What one lookup cost. It cannot be copied or let go, and only a lookup makes one, so it is posted to exactly one tally.
+// What one lookup cost. It cannot be copied or let go, and only this crate makes one, so it is posted to exactly one tally.
 pub struct Slip {
     // entries met
     met: u32,
@@ -13,6 +13,7 @@ pub struct Slip {
 }
 
 impl Slip {
+    // For a lookup alone.
     pub(crate) fn new(met: u32, pairs: u32) -> Slip
         ensures { λ r. ⌜ r ≡ record { met = met; pairs = pairs } ⌝ }
     {
@@ -42,6 +43,19 @@ struct Sums {
     pairs: u64,
 }
 
+impl Sums {
+    // No lookup yet.
+    fn new() -> Sums
+        ensures { λ r. ⌜ r ≡ noLookups ⌝ }
+    {
+        Sums {
+            lookups: 0,
+            met: 0,
+            pairs: 0,
+        }
+    }
+}
+
 // A tally that slips are posted to. It cannot be read, and it cannot be let go, so that no bill is lost: it is closed.
 pub struct OpenTally {
     sums: Sums,
@@ -49,6 +63,7 @@ pub struct OpenTally {
 }
 
 // A tally that can be read and takes no more slips. Nothing opens it again.
+#[must_use]
 #[derive(Clone, Copy, Debug)]
 pub struct ClosedTally {
     sums: Sums,
@@ -82,13 +97,7 @@ impl OpenTally {
         ensures value { λ r. ⌜ r .sums ≡ noLookups ⌝ }
         ensures runs { λ _. ⌜ Sums-up ⌝ }
     {
-        OpenTally {
-            sums: Sums {
-                lookups: 0,
-                met: 0,
-                pairs: 0,
-            },
-        }
+        OpenTally { sums: Sums::new() }
     }
 
     // Takes a slip into the sums. A tally that has 1,000,000 refuses with 10, gives the slip back and stays as it was.
