@@ -2,15 +2,16 @@
 use mathlib.Core.Path.{_≡_, refl}
 use mathlib.Core.List.{List}
 use mathlib.Core.Logic.{inl, inr}
-use Prim.Native.Nat.{ℕ, zero, suc, _+_, _*_, _≤_, _<_}
-use native.Mathlib.Nat.{not-suc-le-zero, mul-le-mul-right, suc-mul}
+use Prim.Native.Nat.{ℕ, zero, suc, _+_, _*_, _/_, _≤_, _<_, zero-le}
+use native.Mathlib.Nat.{not-suc-le-zero, mul-le-mul-right, suc-mul, div-mul-le-self}
 use native.Mathlib.Omega.{arith}
-use lib.Dec.{ltb}
+use lib.ListN.{length}
 use Rattle.std.proofs.shelf.Tests.{lt-ltb, le-ltb}
+use Rattle.limits.specs.Capacity.{ceilingFor, capacityFor}
 use Rattle.rules.specs.Entries.{Entry}
-use Rattle.rules.specs.Trees.{Tree, top}
+use Rattle.rules.specs.Trees.{top}
 use Rattle.store.specs.declared.slot.Slot.{Slot}
-use Rattle.store.specs.Tables.{Rooted, leaf, node, size, In, Stands, slotAt, rootedAt, rooted, plain}
+use Rattle.store.specs.Tables.{Rooted, leaf, node, size, In, Apart, Stands, Sound, slotAt, rootedAt, rooted, plain}
 
 -- an entry's word lies in the strip
 pub in-strip : (p capacity ceiling count symbols : ℕ) → p < capacity → count ≤ ceiling → capacity * ceiling ≤ symbols → p * ceiling + count ≤ symbols
@@ -64,3 +65,32 @@ module _ (table : List Slot) (capacity : ℕ) where
   -- a place from the capacity on
   pub none : (place : ℕ) → capacity ≤ place → rooted table capacity place ≡ leaf
   none place h = read-whole capacity place leaf h (omega arith)
+
+  -- Memory is sound that keeps a tree which is right for it.
+  pub sound-of : (symbols ceiling origin : ℕ) (t : Rooted) → capacity ≤ 16383 → 1 ≤ ceiling → ceiling ≤ 1024 → capacity ≤ length table → capacity * ceiling ≤ symbols
+      → Stands table capacity origin t → Apart t → size t ≤ capacity → ((p : ℕ) → In p t → slotAt table p .length ≤ ceiling)
+      → ((p : ℕ) → In p t → (slotAt table p .«left_length» ≤ 1024) × (slotAt table p .«right_length» ≤ 1024)) → Sound table symbols ceiling capacity origin
+  sound-of symbols ceiling origin t few long short room strip stands once fits words lengths =
+      let e = read-whole capacity origin t stands fits in
+      record {
+        few = few;
+        long = long;
+        short = short;
+        room = room;
+        strip = strip;
+        stands = rw e stands;
+        once = rw e once;
+        fits = rw e fits;
+        words = rw e words;
+        lengths = rw e lengths;
+      }
+
+-- Any memory is sound for an empty dictionary, under the limits that it is opened with.
+pub sound-empty : (table : List Slot) (symbols asked origin : ℕ) → capacityFor (length table) symbols asked ≤ origin
+    → Sound table symbols (ceilingFor asked) (capacityFor (length table) symbols asked) origin
+sound-empty table symbols asked origin far =
+    let d = div-mul-le-self symbols (ceilingFor asked) in
+    let q : capacityFor (length table) symbols asked ≤ symbols / ceilingFor asked = omega arith in
+    let m : capacityFor (length table) symbols asked * ceilingFor asked ≤ symbols / ceilingFor asked * ceilingFor asked = mul-le-mul-right (ceilingFor asked) q in
+    sound-of table (capacityFor (length table) symbols asked) symbols (ceilingFor asked) origin leaf
+    (omega arith) (omega arith) (omega arith) (omega arith) (omega arith) far tt zero-le (λ p i. absurd i) (λ p i. absurd i)

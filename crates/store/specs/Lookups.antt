@@ -30,15 +30,15 @@ sharesAtEnd order w kb ka (top l e m n r) =
     turned (c .answer) (sharesAtEnd order w kb (c .share) l) (record { before = kb; after = ka }) (sharesAtEnd order w (c .share) ka r)
 
 -- the entry at a place, if there is one
-abbrev pub entryOf : (ℕ → Entry) → Option ℕ → Option Entry
-entryOf entry None = None
-entryOf entry (Some p) = Some (entry p)
+abbrev pub entryFound : (ℕ → Entry) → Option ℕ → Option Entry
+entryFound entry None = None
+entryFound entry (Some p) = Some (entry p)
 
--- The walk answers as the lookup by steps in the tree of those entries.
-pub record Looks-up (order : ℕ → ℕ → Ordering) (w : List ℕ) (entry : ℕ → Entry) (t : Rooted) (x : Walk) : Type 0 where
+-- The walk is that of the lookup by steps in the tree of the entries at those places.
+pub record Walk-of (order : ℕ → ℕ → Ordering) (w : List ℕ) (entry : ℕ → Entry) (t : Rooted) (x : Walk) : Type 0 where
   pub met : x .met ≡ length (lookup order w 0 0 (plain entry t) .way)
   pub pairs : x .pairs ≡ lookup order w 0 0 (plain entry t) .pairs
-  pub found : entryOf entry (x .found) ≡ lookup order w 0 0 (plain entry t) .found
+  pub found : entryFound entry (x .found) ≡ lookup order w 0 0 (plain entry t) .found
   -- the place found is one of the tree's
   pub held : (p : ℕ) → x .found ≡ Some p → In p t
   pub shares : x .shares ≡ sharesAtEnd order w 0 0 (plain entry t)

@@ -4,7 +4,7 @@ ghost use mathlib.Core.List.{map};
 ghost use mathlib.Core.Path.{_≡_};
 ghost use Rattle.rules.specs.Walks.{compared};
 ghost use Rattle.store.specs.Tables.{Sound, entryAt, rooted, slotAt};
-ghost use Rattle.store.specs.Lookups.{Looks-up, comparedAt};
+ghost use Rattle.store.specs.Lookups.{Walk-of, comparedAt};
 use crate::slot::Slot;
 use crate::strip::word_at;
 use kinds::kind::Ordered;
@@ -116,7 +116,7 @@ pub(crate) fn find<S: Ordered, C: Comparer<S>>(
 ) -> Walk
     requires sound { ⌜ Sound (now table) (length (now strip)) (limits .ceiling) (limits .capacity) top ⌝ }
     requires short { ⌜ length (now word) ≤ 1024 ⌝ }
-    ensures walks { λ r. ⌜ Looks-up (S·Ordered .order) (map (S·Ordered .symbol) (now (word .entry))) (entryAt (S·Ordered .symbol) (now (table .entry)) (now (strip .entry)) (limits .ceiling)) (rooted (now (table .entry)) (limits .capacity) top) r ⌝ }
+    ensures walks { λ r. ⌜ Walk-of (S·Ordered .order) (map (S·Ordered .symbol) (now (word .entry))) (entryAt (S·Ordered .symbol) (now (table .entry)) (now (strip .entry)) (limits .ceiling)) (rooted (now (table .entry)) (limits .capacity) top) r ⌝ }
     ensures asked { λ r. ⌜ (C·Comparer .asked (now (comparer .entry)) + r .pairs < 2 ^ 32 → C·Comparer .asked (now (comparer .exit)) ≡ C·Comparer .asked (now (comparer .entry)) + r .pairs) ⌝ }
 {
     let mut at = top;
