@@ -30,12 +30,12 @@ pub(crate) struct Walk {
     pub(crate) met: usize,
     // how many pairs of symbols were looked at
     pub(crate) pairs: usize,
-    // as they are where it ended
+    // those where it ended
     pub(crate) shares: Shares,
 }
 
-// Compares a sought word with a held one, where both lie on one side of a third: after it, or else before it.
-// What each shares with the third, `kept` and `stored`, tells their order unless both share the same; then they are compared from there on.
+// Compares a sought word with a held one by what they share with a third, which stands before both or else after both.
+// The sought one shares `kept` symbols with it, the held one `stored`. If these are equal, the two words are compared from there on.
 fn compare_by_lengths<S: Ordered, C: Comparer<S>>(
     word: &[S],
     held: &[S],
@@ -73,7 +73,7 @@ fn compare_by_lengths<S: Ordered, C: Comparer<S>>(
 }
 
 // Compares a sought word with the entry met at a place.
-// Of the nearest entries met before and after, that counts with which the word shares more, and on equal sharing the one after.
+// The side before counts if the word shares more with the nearest entry met there, else the side after.
 pub(crate) fn compare_at<S: Ordered, C: Comparer<S>>(
     table: &[Slot],
     strip: &[S],
