@@ -1,0 +1,6 @@
+//! The tree of a dictionary in lent memory: the slots of the entry table, the words of the strip, and the lookup over both.
+//! Not offered to buyers. A walk needs memory that is `Sound`, so it is private here: what another crate may call has to keep that in its type.
+
+mod lookup;
+pub mod slot;
+mod strip;
