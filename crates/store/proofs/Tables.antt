@@ -68,9 +68,8 @@ module _ (table : List Slot) (capacity : ℕ) where
 
   -- Memory is sound that keeps a tree which is right for it.
   pub sound-of : (symbols ceiling origin : ℕ) (t : Rooted) → capacity ≤ 16383 → 1 ≤ ceiling → ceiling ≤ 1024 → capacity ≤ length table → capacity * ceiling ≤ symbols
-      → Stands table capacity origin t → Apart t → size t ≤ capacity → ((p : ℕ) → In p t → slotAt table p .length ≤ ceiling)
-      → ((p : ℕ) → In p t → (slotAt table p .«left_length» ≤ 1024) × (slotAt table p .«right_length» ≤ 1024)) → Sound table symbols ceiling capacity origin
-  sound-of symbols ceiling origin t few long short room strip stands once fits words lengths =
+      → Stands table capacity origin t → Apart t → size t ≤ capacity → ((p : ℕ) → In p t → slotAt table p .length ≤ ceiling) → Sound table symbols ceiling capacity origin
+  sound-of symbols ceiling origin t few long short room strip stands once fits words =
       let e = read-whole capacity origin t stands fits in
       record {
         few = few;
@@ -82,7 +81,6 @@ module _ (table : List Slot) (capacity : ℕ) where
         once = rw e once;
         fits = rw e fits;
         words = rw e words;
-        lengths = rw e lengths;
       }
 
 -- Any memory is sound for an empty dictionary, under the limits that it is opened with.
@@ -93,4 +91,4 @@ sound-empty table symbols asked origin far =
     let q : capacityFor (length table) symbols asked ≤ symbols / ceilingFor asked = omega arith in
     let m : capacityFor (length table) symbols asked * ceilingFor asked ≤ symbols / ceilingFor asked * ceilingFor asked = mul-le-mul-right (ceilingFor asked) q in
     sound-of table (capacityFor (length table) symbols asked) symbols (ceilingFor asked) origin leaf
-    (omega arith) (omega arith) (omega arith) (omega arith) (omega arith) far tt zero-le (λ p i. absurd i) (λ p i. absurd i)
+    (omega arith) (omega arith) (omega arith) (omega arith) (omega arith) far tt zero-le (λ p i. absurd i)

@@ -88,6 +88,5 @@ pub record Sound (table : List Slot) (symbols ceiling capacity top : ℕ) : Type
   pub stands : Stands table capacity top (rooted table capacity top)
   pub once : Apart (rooted table capacity top)
   pub fits : size (rooted table capacity top) ≤ capacity
-  -- its words and their lengths are within the limits
+  -- its words are within the ceiling
   pub words : (p : ℕ) → In p (rooted table capacity top) → slotAt table p .length ≤ ceiling
-  pub lengths : (p : ℕ) → In p (rooted table capacity top) → (slotAt table p .«left_length» ≤ 1024) × (slotAt table p .«right_length» ≤ 1024)

@@ -1,6 +1,13 @@
 ghost use mathlib.Core.Path.{_≡_};
 ghost use Rattle.store.specs.Tables.{blank};
 
+// A side of a slot.
+#[derive(Clone, Copy, Debug)]
+pub enum Side {
+    Left,
+    Right,
+}
+
 // What the entry table has at one place. A held entry's word stands at the same place of the word strip.
 #[derive(Clone, Copy, Debug)]
 pub struct Slot {
