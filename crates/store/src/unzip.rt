@@ -50,25 +50,25 @@ pub(crate) fn unzip<S: Ordered, C: Comparer<S>>(
         let step = compare_at(table, strip, limits, at, word, shares, comparer);
         let share = step.share as u16;
         if step.answer.is_gt() {
-            let hook = Hook {
+            let right = Hook {
                 place: at,
                 side: Side::Right,
             };
-            let next = child(table, hook);
+            let next = child(table, right);
             hang(table, low, at);
-            note(table, hook, share);
-            low = hook;
+            note(table, right, share);
+            low = right;
             shares.before = step.share;
             at = next;
         } else {
-            let hook = Hook {
+            let left = Hook {
                 place: at,
                 side: Side::Left,
             };
-            let next = child(table, hook);
+            let next = child(table, left);
             hang(table, high, at);
-            note(table, hook, share);
-            high = hook;
+            note(table, left, share);
+            high = left;
             shares.after = step.share;
             at = next;
         }
