@@ -6,3 +6,5 @@ pub mod Sides
 pub mod Places
 pub mod Parting
 pub mod Growing
+pub mod Props
+pub mod Empty

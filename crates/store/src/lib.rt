@@ -2,8 +2,9 @@
 //! Not offered to buyers. A walk needs memory that is `Sound`, so it is private here: what another crate may call has to keep that in its type.
 
 mod attach;
-mod lookup;
+pub mod lookup;
 pub mod slot;
+pub mod store;
 mod strip;
 mod unzip;
 mod writes;

@@ -16,14 +16,14 @@ use words::comparison::compare_from;
 
 // What a sought word shares with the nearest entries met before and after it, 0 without one.
 #[derive(Clone, Copy, Debug)]
-pub(crate) struct Shares {
+pub struct Shares {
     pub(crate) before: usize,
     pub(crate) after: usize,
 }
 
 // What a lookup comes to.
 #[derive(Clone, Copy, Debug)]
-pub(crate) struct Walk {
+pub struct Walk {
     // the place of the sought word's entry
     pub(crate) found: Option<u16>,
     // how many entries were met
