@@ -8,3 +8,5 @@ pub mod Parting
 pub mod Growing
 pub mod Props
 pub mod Empty
+pub mod Strips
+pub mod Adding

@@ -1,6 +1,6 @@
 -- The tree that the entry table keeps, and what memory must be like to be walked.
 use mathlib.Core.Path.{_≡_}
-use mathlib.Core.List.{List, map}
+use mathlib.Core.List.{List, map, _++_}
 use mathlib.Core.Bool.{cond}
 use mathlib.Core.Logic.{_⊎_}
 use Prim.Native.Nat.{ℕ, zero, suc, _+_, _*_, _<_, _≤_}
@@ -75,6 +75,10 @@ module _ {S : Type 0} (symbol : S → ℕ) where
   abbrev pub entryAt : List Slot → List S → ℕ → ℕ → Entry
   entryAt table strip ceiling p =
       record { word = wordAt table strip ceiling p; weight = slotAt table p .weight; tag = slotAt table p .tag }
+
+-- a list with a part of it overwritten, from a position on
+abbrev pub overwritten : {A : Type 0} → ℕ → List A → List A → List A
+overwritten start part whole = take start whole ++ (part ++ drop (start + length part) whole)
 
 -- What memory must be like, whatever the order of the symbols, so that each walk from the top stays in it and ends.
 pub record Sound (table : List Slot) (symbols ceiling capacity top : ℕ) : Type 0 where
