@@ -13,7 +13,9 @@ use Rattle.rules.specs.Trees.{Tree, nothing, top}
 use Rattle.rules.specs.Inserts.{insertedBy}
 use Rattle.store.specs.declared.slot.Slot.{Slot}
 use Rattle.store.specs.Tables.{blank, slotAt, Rooted, leaf, node, size, In, Stands, rooted, plain, entryAt, overwritten}
-use Rattle.store.specs.Stores.{Filled}
+use denote.Ref.{now}
+use Rattle.store.specs.declared.memory.Memory.{Memory}
+use Rattle.store.specs.Stores.{Filled, Filled-by, Has-room}
 use Rattle.store.specs.Unzips.{Free-of, Grown, Same, insertedAt}
 use Rattle.store.proofs.Tables.{in-strip, read-whole, sound-of}
 use Rattle.store.proofs.Strips.{length-overwritten, read-before, read-here}
@@ -165,3 +167,24 @@ module _ (order : ℕ → ℕ → Ordering) {S : Type 0} (symbol : S → ℕ) (T
         ∙ plain-inserted order E₁ count 0 0 t
         ∙ ap (λ (z : Tree). insertedBy order (E₁ count) 0 0 z) (plain-as E E₁ t same-entry)
         ∙ ap (λ (z : Entry). insertedBy order z 0 0 (plain E t)) new-entry
+
+-- the same of memory: the entry e was written to the first free place of m and put into the tree, which gave m′
+pub filled-by : (order : ℕ → ℕ → Ordering) {S : Type 0} (symbol : S → ℕ) (m m′ : Memory S) (word : List S) (H : Has-room word m) (slot : Slot) → slot .length ≡ length word
+    → now (m′ .strip) ≡ overwritten (m .count * m .limits .ceiling) word (now (m .strip)) → m′ .limits ≡ m .limits → m′ .count ≡ suc (m .count)
+    → Grown (m .limits .capacity) (set (now (m .table)) (m .count) slot) (m .count) (rooted (set (now (m .table)) (m .count) slot) (m .limits .capacity) (m .top))
+    (insertedAt order (entryAt symbol (set (now (m .table)) (m .count) slot) (overwritten (m .count * m .limits .ceiling) word (now (m .strip))) (m .limits .ceiling)) (m .count) 0 0 (rooted (set (now (m .table)) (m .count) slot) (m .limits .capacity) (m .top)))
+    (m′ .top) (now (m′ .table))
+    → Filled-by symbol order (record { word = map symbol word; weight = slot .weight; tag = slot .tag }) m m′
+filled-by order symbol m m′ word H slot long e f g G =
+    let T = now (m .table) in
+    let s = now (m .strip) in
+    let more = filled order symbol T s (m .limits) (m .top) (m .count) (H .filled) (H .room) word (H .short) slot long (m′ .top) (now (m′ .table)) G in
+    let grows = tree-is order symbol T s (m .limits) (m .top) (m .count) (H .filled) (H .room) word (H .short) slot long (m′ .top) (now (m′ .table)) G in
+    record {
+      filled = subst (λ (z : List _). Filled (now (m′ .table)) (length z) (m′ .limits) (m′ .top) (m′ .count)) (sym e)
+          (subst (λ (l : Limits). Filled (now (m′ .table)) (length (overwritten (m .count * m .limits .ceiling) word s)) l (m′ .top) (m′ .count)) (sym f)
+          (subst (λ (n : ℕ). Filled (now (m′ .table)) (length (overwritten (m .count * m .limits .ceiling) word s)) (m .limits) (m′ .top) n) (sym g) more));
+      limits = f;
+      counted = g;
+      tree-by = (λ i. plain (entryAt symbol (now (m′ .table)) (e i) (f i .ceiling)) (rooted (now (m′ .table)) (f i .capacity) (m′ .top))) ∙ grows;
+    }

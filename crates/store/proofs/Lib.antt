@@ -10,3 +10,4 @@ pub mod Props
 pub mod Empty
 pub mod Strips
 pub mod Adding
+pub mod Answering

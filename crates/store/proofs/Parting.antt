@@ -5,6 +5,7 @@ use mathlib.Core.List.{List, map}
 use mathlib.Core.Logic.{_⊎_, inl, inr}
 use Prim.Native.Nat.{ℕ, suc, _+_, _*_, _<_, _≤_, max}
 use native.Mathlib.Omega.{arith}
+use denote.Ref.{now}
 use lib.Dec.{ltb}
 use lib.ListN.{length, take, drop}
 use Rattle.std.specs.Orderings.{isGt}
@@ -13,6 +14,8 @@ use Rattle.std.proofs.shelf.Tests.{cond-true, cond-false}
 use Rattle.words.specs.declared.comparison.Comparison.{Comparison}
 use Rattle.rules.specs.Entries.{Entry}
 use Rattle.rules.specs.Walks.{compared, stepAt}
+use Rattle.store.specs.declared.memory.Memory.{Memory}
+use Rattle.store.specs.Stores.{Table-alone, entryOf}
 use Rattle.store.specs.declared.slot.Slot.{Slot}
 use Rattle.store.specs.declared.slot.Side.{Side}
 use Rattle.store.specs.declared.slot.Side.the-variants.{Left, Right}
@@ -355,3 +358,11 @@ begin order symbol strip ceiling capacity w T q x k symbols t f a b = record {
   before = a;
   after = b;
 }
+
+-- where nothing but the table was written, the step by the memory as it is now is the step by its first strip and limits
+pub step-in : (order : ℕ → ℕ → Ordering) {S : Type 0} (symbol : S → ℕ) (w : List ℕ) (first m : Memory S) (q : ℕ) (k : Shares) → Table-alone first m
+    → comparedAt order w (entryOf symbol m) (now (m .table)) q k ≡ comparedAt order w (entryAt symbol (now (m .table)) (now (first .strip)) (first .limits .ceiling)) (now (m .table)) q k
+step-in order symbol w first m q k A =
+    let e = A .strip in
+    let f = A .limits in
+    λ i. comparedAt order w (entryAt symbol (now (m .table)) (e i) (f i .ceiling)) (now (m .table)) q k

@@ -2,7 +2,7 @@
 use mathlib.Core.Path.{_≡_}
 use mathlib.Core.Bool.{cond}
 use mathlib.Core.List.{List}
-use Prim.Native.Nat.{ℕ, _<_}
+use Prim.Native.Nat.{ℕ, suc, _<_, _≤_}
 use denote.Ref.{now}
 use lib.Dec.{eqb, ltb}
 use lib.ListN.{length}
@@ -14,11 +14,13 @@ use Rattle.limits.specs.declared.bounds.Limits.{Limits}
 use Rattle.limits.specs.declared.refusal.Refusal.{Refusal}
 use Rattle.limits.specs.Capacity.{limitsFor}
 use Rattle.limits.specs.Refusals.{Told, refused, told}
+use Rattle.std.specs.declared.cmp.Ordering.{Ordering}
 use Rattle.rules.specs.Entries.{Entry}
+use Rattle.rules.specs.Inserts.{insertedBy}
 use Rattle.rules.specs.Trees.{Tree, entries}
 use Rattle.store.specs.declared.slot.Slot.{Slot}
 use Rattle.store.specs.declared.lookup.Walk.{Walk}
-use Rattle.store.specs.declared.store.Memory.{Memory}
+use Rattle.store.specs.declared.memory.Memory.{Memory}
 use Rattle.store.specs.Tables.{Rooted, leaf, size, In, rooted, plain, entryAt, Sound}
 
 -- Sound memory whose entries have the first places.
@@ -39,6 +41,19 @@ module _ {S : Type 0} where
     pub strip-kept : now (m .strip) ≡ strip
     pub empty : places m ≡ leaf
     pub none : m .count ≡ 0
+
+  -- nothing but the table was written
+  pub record Table-alone (m m′ : Memory S) : Type 0 where
+    pub strip : now (m′ .strip) ≡ now (m .strip)
+    pub limits : m′ .limits ≡ m .limits
+    pub top : m′ .top ≡ m .top
+    pub count : m′ .count ≡ m .count
+
+  -- nothing but the table and the top was written
+  pub record Tree-alone (m m′ : Memory S) : Type 0 where
+    pub strip : now (m′ .strip) ≡ now (m .strip)
+    pub limits : m′ .limits ≡ m .limits
+    pub count : m′ .count ≡ m .count
 
   module _ (symbol : S → ℕ) where
     -- the entry at a place
@@ -65,3 +80,18 @@ refusalOf (Err r) = Some (told r)
 abbrev pub pairsOf : Result Walk Refusal → ℕ
 pairsOf (Ok x) = x .pairs
 pairsOf (Err r) = 0
+
+-- ---- adding
+
+-- what is to hold of memory so that an entry can be written to its first free place
+pub record Has-room {S : Type 0} (word : List S) (m : Memory S) : Type 0 where
+  pub filled : Filled (now (m .table)) (length (now (m .strip))) (m .limits) (m .top) (m .count)
+  pub room : m .count < m .limits .capacity
+  pub short : length word ≤ m .limits .ceiling
+
+-- Memory with one entry more: the limits are as they were, and the tree has that entry, put in by the steps of a lookup.
+pub record Filled-by {S : Type 0} (symbol : S → ℕ) (order : ℕ → ℕ → Ordering) (e : Entry) (m m′ : Memory S) : Type 0 where
+  pub filled : Filled (now (m′ .table)) (length (now (m′ .strip))) (m′ .limits) (m′ .top) (m′ .count)
+  pub limits : m′ .limits ≡ m .limits
+  pub counted : m′ .count ≡ suc (m .count)
+  pub tree-by : tree symbol m′ ≡ insertedBy order e 0 0 (tree symbol m)

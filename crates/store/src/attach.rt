@@ -5,19 +5,20 @@ ghost use mathlib.Core.Bool.{_&&_, _||_};
 ghost use mathlib.Core.List.{map};
 ghost use mathlib.Core.Path.{_≡_};
 ghost use Rattle.std.specs.Orderings.{isGt};
-ghost use Rattle.store.specs.Tables.{entryAt, rooted, wordAt};
+ghost use denote.Ref.{now};
+ghost use Rattle.store.specs.Stores.{Tree-alone, entryOf, places};
 ghost use Rattle.store.specs.Unzips.{Free-of, Grown, Hook-in, insertedAt, seated, seatedTop};
 use crate::lookup::Shares;
-use crate::lookup::compare_at;
+use crate::memory::Memory;
+use crate::memory::child;
+use crate::memory::compare_in;
 use crate::slot::Side;
 use crate::slot::Slot;
 use crate::unzip::unzip;
 use crate::writes::Hook;
-use crate::writes::child;
 use crate::writes::hang;
 use crate::writes::note;
 use kinds::kind::Ordered;
-use limits::bounds::Limits;
 use std::cmp::Ordering;
 use words::comparer::Comparer;
 
@@ -43,24 +44,24 @@ fn seat(table: &mut [Slot], above: Option<Hook>, place: u16, top: u16) -> u16
     }
 }
 
-// Puts a place into the tree below `top`, and answers the new top. The place's slot has its weight, tag and word length, and the strip its word.
+// Puts a place into the tree. Its slot has its weight, tag and word length, and the strip its word.
 // It goes below all that stay above it on the way to its word, and what stood there is unzipped.
 pub(crate) fn attach<S: Ordered, C: Comparer<S>>(
-    table: &mut [Slot],
-    strip: &[S],
-    limits: Limits,
-    top: u16,
+    memory: &mut Memory<S>,
     word: &[S],
     place: u16,
     comparer: &mut C,
-) -> u16
-    requires free { ⌜ Free-of (now table) (length (now strip)) (limits .ceiling) (limits .capacity) place (rooted (now table) (limits .capacity) top) top ⌝ }
-    requires room { ⌜ place < limits .capacity ⌝ }
+)
+    requires free { ⌜ Free-of (now (now memory .table)) (length (now (now memory .strip))) (now memory .limits .ceiling) (now memory .limits .capacity) place (places (now memory)) (now memory .top) ⌝ }
+    requires room { ⌜ place < now memory .limits .capacity ⌝ }
     requires short { ⌜ length (now word) ≤ 1024 ⌝ }
-    requires word { ⌜ map (S·Ordered .symbol) (now word) ≡ wordAt (S·Ordered .symbol) (now table) (now strip) (limits .ceiling) place ⌝ }
-    ensures { λ r. ⌜ Grown (limits .capacity) (now (table .entry)) place (rooted (now (table .entry)) (limits .capacity) top) (insertedAt (S·Ordered .order) (entryAt (S·Ordered .symbol) (now (table .entry)) (now (strip .entry)) (limits .ceiling)) place 0 0 (rooted (now (table .entry)) (limits .capacity) top)) r (now (table .exit)) ⌝ }
+    requires word { ⌜ map (S·Ordered .symbol) (now word) ≡ entryOf (S·Ordered .symbol) (now memory) place .word ⌝ }
+    ensures tree { λ _. ⌜ Grown (now (memory .entry) .limits .capacity) (now (now (memory .entry) .table)) place (places (now (memory .entry))) (insertedAt (S·Ordered .order) (entryOf (S·Ordered .symbol) (now (memory .entry))) place 0 0 (places (now (memory .entry)))) (now (memory .exit) .top) (now (now (memory .exit) .table)) ⌝ }
+    ensures rest { λ _. ⌜ Tree-alone (now (memory .entry)) (now (memory .exit)) ⌝ }
 {
-    let weight = table[place as usize].weight;
+    let limits = memory.limits;
+    let top = memory.top;
+    let weight = memory.table[place as usize].weight;
     let mut above = None;
     let mut at = top;
     let mut shares = Shares {
@@ -68,8 +69,8 @@ pub(crate) fn attach<S: Ordered, C: Comparer<S>>(
         after: 0,
     };
     while (at as usize) < limits.capacity() {
-        let step = compare_at(table, strip, limits, at, word, shares, comparer);
-        if !stays_above(table[at as usize].weight, weight, step.answer) {
+        let step = compare_in(memory, at, word, shares, comparer);
+        if !stays_above(memory.table[at as usize].weight, weight, step.answer) {
             break;
         }
         let hook = if step.answer.is_gt() {
@@ -86,11 +87,11 @@ pub(crate) fn attach<S: Ordered, C: Comparer<S>>(
             }
         };
         above = Some(hook);
-        at = child(table, hook);
+        at = child(memory, hook);
     }
-    unzip(table, strip, limits, at, word, shares, place, comparer);
+    unzip(memory, at, word, shares, place, comparer);
     note(
-        table,
+        memory.table,
         Hook {
             place,
             side: Side::Left,
@@ -98,12 +99,12 @@ pub(crate) fn attach<S: Ordered, C: Comparer<S>>(
         shares.before as u16,
     );
     note(
-        table,
+        memory.table,
         Hook {
             place,
             side: Side::Right,
         },
         shares.after as u16,
     );
-    seat(table, above, place, top)
+    memory.top = seat(memory.table, above, place, top);
 }

@@ -1,8 +1,7 @@
 ghost use mathlib.Core.Path.{_≡_};
 ghost use Prim.Native.Nat.{_<_};
 ghost use lib.ListN.{length};
-ghost use Rattle.store.specs.Tables.{slotAt};
-ghost use Rattle.store.specs.Unzips.{childOn, hung, noted};
+ghost use Rattle.store.specs.Unzips.{hung, noted};
 use crate::slot::Side;
 use crate::slot::Slot;
 
@@ -11,18 +10,6 @@ use crate::slot::Slot;
 pub(crate) struct Hook {
     pub(crate) place: u16,
     pub(crate) side: Side,
-}
-
-// The child on a hook.
-pub(crate) fn child(table: &[Slot], hook: Hook) -> u16
-    requires { ⌜ hook .place < length (now table) ⌝ }
-    ensures { λ r. ⌜ r ≡ childOn (hook .side) (slotAt (now (table .entry)) (hook .place)) ⌝ }
-{
-    let slot = &table[hook.place as usize];
-    match hook.side {
-        Side::Left => slot.left,
-        Side::Right => slot.right,
-    }
 }
 
 // Hangs a child on a hook.

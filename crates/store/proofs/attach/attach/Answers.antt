@@ -9,7 +9,9 @@ use Rattle.std.proofs.shelf.Lists.{length-map}
 use Rattle.words.specs.declared.comparison.Comparison.{Comparison}
 use Rattle.rules.specs.Inserts.{staysAbove}
 use Rattle.store.specs.Lookups.{comparedAt}
-use Rattle.store.specs.Tables.{entryAt, rooted}
+use denote.Ref.{now}
+use Rattle.store.specs.Stores.{entryOf}
+use Rattle.store.specs.Tables.{rooted}
 use Rattle.store.specs.Unzips.{Hook-in, Unzipped}
 use Rattle.store.proofs.Growing.{begin, in-memory, free-here, goes-right, goes-left, ends, hook-in, Down}
 use Rattle.store.proofs.attach.attach.Given as given
@@ -18,29 +20,29 @@ use Rattle.store.proofs.attach.attach.Needs.{then-is-gt, else-is-gt, else-loop
 
 pub loop-at-holds : need.loop-at-holds
 loop-at-holds g c = (
-  begin (g .S·Ordered .order) (entryAt (g .S·Ordered .symbol) (c .args .table .now) (c .args .strip .now) (c .args .limits .ceiling)) (length (c .args .strip .now)) (c .args .limits .ceiling) (c .args .limits .capacity) (c .args .place) (c .args .top) (c .args .table .now) (c .pre .free),
+  begin (g .S·Ordered .order) (entryOf (g .S·Ordered .symbol) (c .args .memory .now)) (length (now (c .args .memory .now .strip))) (c .args .memory .now .limits .ceiling) (c .args .memory .now .limits .capacity) (c .args .place) (c .args .memory .now .top) (now (c .args .memory .now .table)) (c .pre .free),
   omega arith,
 )
 
 pub cast-at : need.cast-at
 cast-at g c = omega arith
 
-pub compare-at-step-requires : need.compare-at-step-requires
-compare-at-step-requires g c κs =
-    let m = in-memory (c .loop-at .inv .0) (omega arith) (length (c .args .strip .now)) (c .pre .free .strip) in
+pub compare-in-step-requires : need.compare-in-step-requires
+compare-in-step-requires g c κs =
+    let m = in-memory (c .loop-at .inv .0) (omega arith) (length (now (c .args .memory .now .strip))) (c .pre .free .strip) in
     record { slot = m .0; word = m .1 }
 
 -- the step by the word that was handed over is the step by the word at the place
-step-is : (g : given.Over) (c : need.After-child-at g) → c .compare-at-step .result ≡ comparedAt (g .S·Ordered .order) ((entryAt (g .S·Ordered .symbol) (c .args .table .now) (c .args .strip .now) (c .args .limits .ceiling)) (c .args .place) .word) (entryAt (g .S·Ordered .symbol) (c .args .table .now) (c .args .strip .now) (c .args .limits .ceiling)) (c .args .table .now) (c .loop-at .at) (c .loop-at .shares)
-step-is g c = c .compare-at-step .ensures .value ∙ ap (λ (w : List ℕ). comparedAt (g .S·Ordered .order) w (entryAt (g .S·Ordered .symbol) (c .args .table .now) (c .args .strip .now) (c .args .limits .ceiling)) (c .args .table .now) (c .loop-at .at) (c .loop-at .shares)) (c .pre .word)
+step-is : (g : given.Over) (c : need.After-child-at g) → c .compare-in-step .result ≡ comparedAt (g .S·Ordered .order) ((entryOf (g .S·Ordered .symbol) (c .args .memory .now)) (c .args .place) .word) (entryOf (g .S·Ordered .symbol) (c .args .memory .now)) (now (c .args .memory .now .table)) (c .loop-at .at) (c .loop-at .shares)
+step-is g c = c .compare-in-step .ensures .value ∙ ap (λ (w : List ℕ). comparedAt (g .S·Ordered .order) w (entryOf (g .S·Ordered .symbol) (c .args .memory .now)) (now (c .args .memory .now .table)) (c .loop-at .at) (c .loop-at .shares)) (c .pre .word)
 
 down : (g : given.Over) (c : need.After-child-at g) → Down (c .loop-at .inv .0) (c .if-is-gt .hook) (c .child-at .result) (c .if-is-gt .shares)
 down g c =
     let stays = sym (c .stays-above .ensures) ∙ c .if-not-stays-above .left in
     elim (c .if-is-gt .came) [
-      | then-is-gt w ↦ goes-right (c .loop-at .inv .0) (omega arith) (c .compare-at-step .result) (step-is g c) stays (c .if-is-gt .hook) (c .if-is-gt .shares) (c .child-at .result) (c .child-at .ensures)
+      | then-is-gt w ↦ goes-right (c .loop-at .inv .0) (omega arith) (c .compare-in-step .result) (step-is g c) stays (c .if-is-gt .hook) (c .if-is-gt .shares) (c .child-at .result) (c .child-at .ensures)
           (sym (c .is-gt .ensures) ∙ w .if-is-gt .taken) (w .hook-is) (w .shares-is)
-      | else-is-gt w ↦ goes-left (c .loop-at .inv .0) (omega arith) (c .compare-at-step .result) (step-is g c) stays (c .if-is-gt .hook) (c .if-is-gt .shares) (c .child-at .result) (c .child-at .ensures)
+      | else-is-gt w ↦ goes-left (c .loop-at .inv .0) (omega arith) (c .compare-in-step .result) (step-is g c) stays (c .if-is-gt .hook) (c .if-is-gt .shares) (c .child-at .result) (c .child-at .ensures)
           (sym (c .is-gt .ensures) ∙ w .if-is-gt .left) (w .hook-is) (w .shares-is)
     ]
 
@@ -58,7 +60,7 @@ unzip-requires g c κs =
     let b = d .before in
     let a = d .after in
     record {
-      free = free-here d (length (c .args .strip .now)) (c .pre .free .few) (c .pre .free .strip) (c .pre .free .at);
+      free = free-here d (length (now (c .args .memory .now .strip))) (c .pre .free .few) (c .pre .free .strip) (c .pre .free .at);
       before = omega (arith, l, w, b);
       after = omega (arith, l, w, a);
       short = c .pre .short;
@@ -78,21 +80,24 @@ cast-shares-2 g c =
     let a = c .loop-at .inv .0 .after in
     omega (arith, l, w, a, c .pre .short)
 
-pub seat-requires : need.seat-requires
-seat-requires g c κs =
-    subst (λ (n : ℕ). Hook-in n (c .loop-at .above)) (sym (c .note-2 .kept .table ∙ c .note .kept .table ∙ c .unzip .kept .table)) (hook-in (c .loop-at .inv .0))
+pub seat-memory-requires : need.seat-memory-requires
+seat-memory-requires g c κs =
+    subst (λ (n : ℕ). Hook-in n (c .loop-at .above)) (sym (c .note-2 .kept .table ∙ c .note .kept .table ∙ c .unzip .ensures .table .same .size)) (hook-in (c .loop-at .inv .0))
 
 pub returns : need.returns
-returns g c =
-    ends (c .loop-at .inv .0) (c .unzip .last .table) (c .note .last .table) (c .note-2 .last .table) (c .pre .room)
-    -- the loop ends where nothing is left, or at an entry that the new one outranks
-    (elim (c .loop-at-test .came) [
-      | else-loop-at-test w ↦ inl (let e = w .loop-at-test .left in omega arith)
-      | then-loop-at-test·then-not-stays-above w ↦ inr (subst (λ (y : Comparison). staysAbove (g .S·Ordered .order) ((entryAt (g .S·Ordered .symbol) (c .args .table .now) (c .args .strip .now) (c .args .limits .ceiling)) (c .loop-at .at)) ((entryAt (g .S·Ordered .symbol) (c .args .table .now) (c .args .strip .now) (c .args .limits .ceiling)) (c .args .place)) y ≡ false)
-          (w .compare-at-step .ensures .value ∙ ap (λ (w : List ℕ). comparedAt (g .S·Ordered .order) w (entryAt (g .S·Ordered .symbol) (c .args .table .now) (c .args .strip .now) (c .args .limits .ceiling)) (c .args .table .now) (c .loop-at .at) (c .loop-at .shares)) (c .pre .word))
-          (sym (w .stays-above .ensures) ∙ w .if-not-stays-above .taken))
-    ])
-    -- what unzip did, said with the word at the place
-    (subst (λ (w : List ℕ). Unzipped (g .S·Ordered .order) (entryAt (g .S·Ordered .symbol) (c .args .table .now) (c .args .strip .now) (c .args .limits .ceiling)) (c .args .limits .capacity) w (c .loop-at .shares .before) (c .loop-at .shares .after) (c .args .place) (rooted (c .args .table .now) (c .args .limits .capacity) (c .loop-at .at)) (c .args .table .now) (c .unzip .last .table))
-    (c .pre .word) (c .unzip .ensures))
-    (c .note .ensures) (c .note-2 .ensures) (c .seat .result) (c .seat .last .table) (c .seat .ensures .top) (c .seat .ensures .table)
+returns g c = record {
+  tree =
+      ends (c .loop-at .inv .0) (now (c .unzip .last .memory .table)) (c .note .last .table) (c .note-2 .last .table) (c .pre .room)
+      -- the loop ends where nothing is left, or at an entry that the new one outranks
+      (elim (c .loop-at-test .came) [
+        | else-loop-at-test w ↦ inl (let e = w .loop-at-test .left in omega arith)
+        | then-loop-at-test·then-not-stays-above w ↦ inr (subst (λ (y : Comparison). staysAbove (g .S·Ordered .order) ((entryOf (g .S·Ordered .symbol) (c .args .memory .now)) (c .loop-at .at)) ((entryOf (g .S·Ordered .symbol) (c .args .memory .now)) (c .args .place)) y ≡ false)
+            (w .compare-in-step .ensures .value ∙ ap (λ (w : List ℕ). comparedAt (g .S·Ordered .order) w (entryOf (g .S·Ordered .symbol) (c .args .memory .now)) (now (c .args .memory .now .table)) (c .loop-at .at) (c .loop-at .shares)) (c .pre .word))
+            (sym (w .stays-above .ensures) ∙ w .if-not-stays-above .taken))
+      ])
+      -- what unzip did, said with the word at the place
+      (subst (λ (w : List ℕ). Unzipped (g .S·Ordered .order) (entryOf (g .S·Ordered .symbol) (c .args .memory .now)) (c .args .memory .now .limits .capacity) w (c .loop-at .shares .before) (c .loop-at .shares .after) (c .args .place) (rooted (now (c .args .memory .now .table)) (c .args .memory .now .limits .capacity) (c .loop-at .at)) (now (c .args .memory .now .table)) (now (c .unzip .last .memory .table)))
+      (c .pre .word) (c .unzip .ensures .table))
+      (c .note .ensures) (c .note-2 .ensures) (c .seat-memory .result) (c .seat-memory .last .table) (c .seat-memory .ensures .top) (c .seat-memory .ensures .table);
+  rest = (let a = c .unzip .ensures .rest in record { strip = a .strip; limits = a .limits; count = a .count });
+}
