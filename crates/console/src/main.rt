@@ -1,4 +1,5 @@
 //! The console: reads a script on standard input, a command to a line, runs each on the library and prints what it did.
+#![tactic(auto)]
 
 mod answer;
 mod command;

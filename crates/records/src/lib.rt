@@ -1,4 +1,5 @@
 //! Records: reading and writing one record of a sheet at a byte place.
+#![tactic(auto)]
 
 pub mod mark;
 mod number;

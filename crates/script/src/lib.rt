@@ -1,4 +1,5 @@
 //! The language of the console's scripts: numbers, bytes in hexadecimal, words of symbols, and commands.
+#![tactic(auto)]
 
 pub mod command;
 pub mod symbol;

@@ -6,4 +6,4 @@ use Rattle.records.proofs.write.put_closing.Goals as goal
 pub returns : goal.returns
 returns c =
     let s = c.args.rest.now in
-    over_next s (90 ∷ (0 ∷ [])) (high_first 2 c.args.count) _ c.put-two.new.out 0 2 (over_two s 90 0 (omega arith)) refl (omega arith) c.put-two.ensures
+    over_next s (90 ∷ (0 ∷ [])) (high_first 2 c.args.count) _ c.put_two.new.out 0 2 (over_two s 90 0 (omega arith)) refl (omega arith) c.put_two.ensures

@@ -15,8 +15,8 @@ returns c =
     let to_left : List ℕ = to_tag ++ high_first 2 n.left in
     let to_right : List ℕ = to_left ++ high_first 2 n.right in
     let mark = over_two s 69 c.code.result (omega arith) ∙ ap (λ (x : ℕ). over 0 (69 ∷ (x ∷ [])) s) c.code.ensures in
-    let weight = over_next s to_mark (high_first 4 n.weight) _ c.put-four.new.out 0 2 mark refl (omega arith) c.put-four.ensures in
-    let tag = over_next s to_weight (high_first 4 n.tag) _ c.put-four-2.new.out 0 6 weight refl (omega arith) c.put-four-2.ensures in
-    let left = over_next s to_tag (high_first 2 n.left) _ c.put-two.new.out 0 10 tag refl (omega arith) c.put-two.ensures in
+    let weight = over_next s to_mark (high_first 4 n.weight) _ c.put_four.new.out 0 2 mark refl (omega arith) c.put_four.ensures in
+    let tag = over_next s to_weight (high_first 4 n.tag) _ c.put_four-2.new.out 0 6 weight refl (omega arith) c.put_four-2.ensures in
+    let left = over_next s to_tag (high_first 2 n.left) _ c.put_two.new.out 0 10 tag refl (omega arith) c.put_two.ensures in
     let right = over_next s to_left (high_first 2 n.right) _ c.put-two-2.new.out 0 12 left refl (omega arith) c.put-two-2.ensures in
     over_next s to_right (high_first 2 c.args.size) _ c.put-two-3.new.out 0 14 right refl (omega arith) c.put-two-3.ensures

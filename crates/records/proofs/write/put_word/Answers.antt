@@ -49,7 +49,7 @@ loop-symbol-preserved g c =
     let wrote : c.write.new.out ≡ over 0 next lent =
     c.write.ensures.after ∙ cond-true c.write.result (over 0 next lent) lent (c.write.ensures.room ∙ le-leb width (length lent) fits) in
     let m : (i + 1) * width ≡ i * width + 1 * width = add-mul i 1 width in (
-      omega (arith, c.width-of-width.ensures.value),
+      omega (arith, c.width_of-width.ensures.value),
       over_next c.args.rest.now done next rest c.write.new.out 0 at c.loop-symbol.invariant.1 (omega arith) (omega arith) wrote
           ∙ ap (λ t. over 0 t c.args.rest.now) (sym (joined_step f symbol word i c.symbol-item.result (omega arith) c.symbol-item.is)),
     )

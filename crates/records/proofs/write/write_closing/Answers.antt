@@ -10,5 +10,5 @@ returns-in-err-next c width =
 
 pub returns : goal.returns
 returns c width =
-    let h = room_there (c.args.at + 4) (length c.args.sheet.now) c.in-ok-next.next c.in-ok-next.ensures in
-    put width (closing c.args.count) c.args.at c.in-ok-next.next c.args.sheet.now c.put-closing.new.rest (omega arith) refl h.0 (omega arith) c.put-closing.ensures
+    let h = room_there (c.args.at + 4) (length c.args.sheet.now) c.in_ok-next.next c.in_ok-next.ensures in
+    put width (closing c.args.count) c.args.at c.in_ok-next.next c.args.sheet.now c.put_closing.new.rest (omega arith) refl h.0 (omega arith) c.put_closing.ensures

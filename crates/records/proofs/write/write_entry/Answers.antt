@@ -46,8 +46,8 @@ returns g c =
     let content = entry_of codec c.args.numbers word in
     let l = length-map c.args.word.now symbol in
     let small : length word < 2 ^ 16 = omega arith in
-    let len = record_length codec law c.args.numbers word (length c.args.word.now) c.width-of.result l c.width-of.ensures.value in
-    let h = room_there (c.args.at + (16 + length c.args.word.now * c.width-of.result)) (length c.args.sheet.now) c.in-ok-next.next c.in-ok-next.ensures in
+    let len = record_length codec law c.args.numbers word (length c.args.word.now) c.width_of.result l c.width_of.ensures.value in
+    let h = room_there (c.args.at + (16 + length c.args.word.now * c.width_of.result)) (length c.args.sheet.now) c.in_ok-next.next c.in_ok-next.ensures in
     let proper : ProperEntry codec.width c.args.numbers (length word) (flat_map codec.bytes word) =
     record {
       weight = search rules;
@@ -58,6 +58,6 @@ returns g c =
       wide = length_joined codec.bytes codec.width law.wide word;
       bytes = bytes_joined codec.bytes law.small word;
     } in
-    put codec.width content c.args.at c.in-ok-next.next c.args.sheet.now c.put-entry.new.rest proper
+    put codec.width content c.args.at c.in_ok-next.next c.args.sheet.now c.put_entry.new.rest proper
     (lt-ltb (length word) 65536 (omega arith)) (h.0 ∙ ap (λ (n : ℕ). c.args.at + n) (sym len)) (omega (arith, h.0, h.1))
-    (c.put-entry.ensures ∙ ap (λ (n : ℕ). over 0 (head_bytes c.args.numbers n ++ flat_map codec.bytes word) (take (length c.args.sheet.now - c.args.at) (drop c.args.at c.args.sheet.now))) (sym l))
+    (c.put_entry.ensures ∙ ap (λ (n : ℕ). over 0 (head_bytes c.args.numbers n ++ flat_map codec.bytes word) (take (length c.args.sheet.now - c.args.at) (drop c.args.at c.args.sheet.now))) (sym l))

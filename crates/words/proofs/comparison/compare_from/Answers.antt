@@ -64,7 +64,7 @@ returns g c =
     let b = c.args.b.now in
     let la : length (map symbol a) ≡ length a = length-map a symbol in
     let lb : length (map symbol b) ≡ length b = length-map b symbol in
-    let here : c.loop-at.at ≡ c.min-end.result = (let k = c.loop-at.auto.at_end (omega arith) in omega arith) in
+    let here : c.loop-at.at ≡ c.min-end.result = (let k = c.loop-at.auto.at-end (omega arith) in omega arith) in
     let agreed : Agreed order (map symbol a) (map symbol b) c.min-start.result c.min-end.result = rw here at c.loop-at.invariant.0 in
     let d = ends order (map symbol a) (map symbol b) c.min-start.result c.min-end.result c.cmp.result agreed (omega arith) (rw (la, lb) c.cmp.ensures) in
     let v = from_start order c.args.from (map symbol a) (map symbol b) c.min-start.result _ (starts symbol a b c.args.from c.min-end.result c.min-start.result c.min-end.ensures c.min-start.ensures) d in

@@ -5,6 +5,6 @@ use Rattle.words.proofs.comparison.compare_words.Goals as goal
 pub returns : goal.returns
 returns g c =
     record {
-      value = c.compare-from.ensures.value;
-      tells = tells g.S.Ordered.order g.met.S.Ordered.lawful (map g.S.Ordered.symbol c.args.a.now) (map g.S.Ordered.symbol c.args.b.now) _ c.compare-from.ensures.value;
+      value = c.compare_from.ensures.value;
+      tells = tells g.S.Ordered.order g.met.S.Ordered.lawful (map g.S.Ordered.symbol c.args.a.now) (map g.S.Ordered.symbol c.args.b.now) _ c.compare_from.ensures.value;
     }
