@@ -18,7 +18,7 @@ read_of r = record { content = content_of r.0; next = r.1 }
 
 -- The symbol bytes are not a copy: they are the part of the caller's own sheet that begins 16 bytes after the mark.
 abbrev pub PartOf : Bor (List ℕ) → ℕ → Result (Record × ℕ) Refusal → Type 0
-PartOf sheet at (Ok (Entry numbers length symbols, next)) = (symbols.ptr.0 ≡ sheet.ptr.0) × (symbols.ptr.1 ≡ sheet.ptr.1 + (at + 16))
+PartOf sheet at (Ok (Entry numbers length symbols, next)) = (symbols.ref_ptr.0 ≡ sheet.ref_ptr.0) × (symbols.ref_ptr.1 ≡ sheet.ref_ptr.1 + (at + 16))
 PartOf sheet at (Ok (Closing count, next)) = Unit {0}
 PartOf sheet at (Err r) = Unit {0}
 

@@ -12,7 +12,7 @@ loop-b-preserved c =
     let second : List ℕ = encode c.digit-char-in-loop-b.result in
     let one : string_bytes c.push.new.self ≡ was ++ first = pushed first refl c.in-ok-push.was c.push.ensures.bytes in
     let two : string_bytes c.push-in-loop-b.new.self ≡ (was ++ first) ++ second = pushed second one c.in-ok-push-2.was c.push-in-loop-b.ensures.bytes in
-    let small : get_or c.args.bytes.now c.loop-b.b-index 0 < 256 = (let f = c.type-inv.bytes c.loop-b.b-index in omega arith) in
+    let small : get_or c.args.bytes.now c.loop-b.b-index 0 < 256 = (let f = c.type_inv.bytes c.loop-b.b-index in omega arith) in
     two
     ∙ text_pushed c.args.bytes.now was first second c.loop-b.b-index c.digit-char.result c.digit-char-in-loop-b.result (omega arith) small c.loop-b.invariant
     c.digit-char.ensures c.digit-char-in-loop-b.ensures c.push.ensures.ascii c.push-in-loop-b.ensures.ascii

@@ -18,5 +18,5 @@ returns c =
     let weight = over_next s to_mark (high_first 4 n.weight) _ c.put_four.new.out 0 2 mark refl (omega arith) c.put_four.ensures in
     let tag = over_next s to_weight (high_first 4 n.tag) _ c.put_four-2.new.out 0 6 weight refl (omega arith) c.put_four-2.ensures in
     let left = over_next s to_tag (high_first 2 n.left) _ c.put_two.new.out 0 10 tag refl (omega arith) c.put_two.ensures in
-    let right = over_next s to_left (high_first 2 n.right) _ c.put-two-2.new.out 0 12 left refl (omega arith) c.put-two-2.ensures in
-    over_next s to_right (high_first 2 c.args.size) _ c.put-two-3.new.out 0 14 right refl (omega arith) c.put-two-3.ensures
+    let right = over_next s to_left (high_first 2 n.right) _ c.put_two-2.new.out 0 12 left refl (omega arith) c.put_two-2.ensures in
+    over_next s to_right (high_first 2 c.args.size) _ c.put_two-3.new.out 0 14 right refl (omega arith) c.put_two-3.ensures

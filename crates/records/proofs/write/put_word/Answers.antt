@@ -15,14 +15,14 @@ loop-symbol-init g c = (omega arith, refl)
 goes : (width i n at len : ℕ) → n * width ≤ len → at ≡ i * width → i < n → at + width ≤ len
 goes width i n at len fits is h = let r = room i n width h in omega arith
 
-pub slice-bounds-write-count : goal.slice-bounds-write-count
-slice-bounds-write-count g c =
+pub slice_bounds-write-count : goal.slice_bounds-write-count
+slice_bounds-write-count g c =
     let w = g.S.Written.codec.width in
     let k = goes w c.loop-symbol.symbol-index (length c.args.word.now) c.loop-symbol.at (length c.args.rest.now) c.requires c.loop-symbol.invariant.0 (omega arith) in
     omega (arith, c.loop-symbol.auto.rest)
 
-pub slice-bounds-write-start : goal.slice-bounds-write-start
-slice-bounds-write-start g c =
+pub slice_bounds-write-start : goal.slice_bounds-write-start
+slice_bounds-write-start g c =
     let w = g.S.Written.codec.width in
     let k = goes w c.loop-symbol.symbol-index (length c.args.word.now) c.loop-symbol.at (length c.args.rest.now) c.requires c.loop-symbol.invariant.0 (omega arith) in
     let b : c.loop-symbol.at ≤ length c.loop-symbol.rest = omega (arith, c.loop-symbol.auto.rest) in

@@ -25,15 +25,15 @@ returns-then-word-gt-LONGEST g c =
     not_put g.S.Written.codec.width (entry_of g.S.Written.codec c.args.numbers word) c.args.at c.args.sheet.now
     (and_left (ltb (length word) 65536) _ (le-ltb (length word) 65536 (omega arith)))
 
-pub returns-in-err-next : goal.returns-in-err-next
-returns-in-err-next g c =
+pub returns-in_err-next : goal.returns-in_err-next
+returns-in_err-next g c =
     let symbol = g.S.Ordered.symbol in
     let codec = g.S.Written.codec in
     let word = map symbol c.args.word.now in
     let content = entry_of codec c.args.numbers word in
-    let len = record_length codec g.met.S.Written.faithful c.args.numbers word (length c.args.word.now) c.width-of.result (length-map c.args.word.now symbol) c.width-of.ensures.value in
-    let h = no_room (c.args.at + (16 + length c.args.word.now * c.width-of.result)) (length c.args.sheet.now) c.in-err-next.ensures in
-    rw c.from-residual.ensures
+    let len = record_length codec g.met.S.Written.faithful c.args.numbers word (length c.args.word.now) c.width_of.result (length-map c.args.word.now symbol) c.width_of.ensures.value in
+    let h = no_room (c.args.at + (16 + length c.args.word.now * c.width_of.result)) (length c.args.sheet.now) c.in_err-next.ensures in
+    rw c.from_residual.ensures
     (not_put codec.width content c.args.at c.args.sheet.now
     (and_right (fits_size content) (leb (c.args.at + length (record_bytes content)) (length c.args.sheet.now)) (ap (λ (n : ℕ). leb (c.args.at + n) (length c.args.sheet.now)) len ∙ h)))
 

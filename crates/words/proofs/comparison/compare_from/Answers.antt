@@ -1,5 +1,6 @@
 use Rattle.std.proofs.Common.{◌≡◌, ℕ, ◌+◌, ◌<◌, min, List, map, length, sym, ◌∙◌, arith}
 use Rattle.std.proofs.lemmas.List.{length-map}
+use Rattle.std.proofs.lemmas.Cmp.{ranked}
 use Rattle.words.specs.Comparisons.{start}
 use Rattle.words.proofs.Steps.{Agreed, cut, agreed_none, agreed_more, differs, ends, from_start, as_from_the_start}
 use Rattle.words.proofs.comparison.compare_from.Given as given
@@ -31,8 +32,8 @@ loop-at-preserved g c =
           omega arith),
     )
 
-pub returns-in-default : goal.returns-in-default
-returns-in-default g c =
+pub returns-in_default : goal.returns-in_default
+returns-in_default g c =
     let symbol = g.S.Ordered.symbol in
     let order = g.S.Ordered.order in
     let law = g.met.S.Ordered.lawful in
@@ -43,7 +44,7 @@ returns-in-default g c =
     let lb : at < length b = omega arith in
     let d = differs order (map symbol a) (map symbol b) c.min-start.result law at (symbol c.index-a-at.result) (symbol c.index-b-at.result)
     (cut symbol a at c.index-a-at.result la c.index-a-at.is) (cut symbol b at c.index-b-at.result lb c.index-b-at.is)
-    c.loop-at.invariant.0 c.ask.result c.ask.ensures.answers c.in-default.not-Equal in
+    c.loop-at.invariant.0 c.ask.result c.ask.ensures.answers c.in_default.not-Equal in
     let v = from_start order c.args.from (map symbol a) (map symbol b) c.min-start.result _ (starts symbol a b c.args.from c.min-end.result c.min-start.result c.min-end.ensures c.min-start.ensures) d in
     record {
       value = v;
@@ -66,7 +67,7 @@ returns g c =
     let lb : length (map symbol b) ≡ length b = length-map b symbol in
     let here : c.loop-at.at ≡ c.min-end.result = (let k = c.loop-at.auto.at-end (omega arith) in omega arith) in
     let agreed : Agreed order (map symbol a) (map symbol b) c.min-start.result c.min-end.result = rw here at c.loop-at.invariant.0 in
-    let d = ends order (map symbol a) (map symbol b) c.min-start.result c.min-end.result c.cmp.result agreed (omega arith) (rw (la, lb) c.cmp.ensures) in
+    let d = ends order (map symbol a) (map symbol b) c.min-start.result c.min-end.result c.cmp.result agreed (omega arith) (rw (la, lb) (ranked (length a) (length b) c.cmp.result c.cmp.ensures)) in
     let v = from_start order c.args.from (map symbol a) (map symbol b) c.min-start.result _ (starts symbol a b c.args.from c.min-end.result c.min-start.result c.min-end.ensures c.min-start.ensures) d in
     record {
       value = v;
