@@ -13,11 +13,11 @@ loop-at-init g c = (
   omega arith,
 )
 
-pub overflow-cast-at : goal.overflow-cast-at
-overflow-cast-at g c = omega arith
+pub overflow_cast-at : goal.overflow_cast-at
+overflow_cast-at g c = omega arith
 
-pub compare-at-step-requires : goal.compare-at-step-requires
-compare-at-step-requires g c =
+pub compare_at-step-requires : goal.compare_at-step-requires
+compare_at-step-requires g c =
     let below : c.loop-at.at < c.args.limits.capacity = omega arith in
     record {
       slot = omega arith;
@@ -25,13 +25,13 @@ compare-at-step-requires g c =
           below (c.requires.sound.words c.loop-at.at (inside_here c.loop-at.invariant.0 below)) c.requires.sound.strip;
     }
 
-pub overflow-add-met : goal.overflow-add-met
-overflow-add-met g c = omega arith
+pub overflow_add-met : goal.overflow_add-met
+overflow_add-met g c = omega arith
 
-pub overflow-add-pairs : goal.overflow-add-pairs
-overflow-add-pairs g c =
+pub overflow_add-pairs : goal.overflow_add-pairs
+overflow_add-pairs g c =
     let b = within c.loop-at.invariant.0 (omega arith) in
-    let v : c.compare-at-step.result.pairs ≤ length (map g.S.Ordered.symbol c.args.word.now) = rw c.compare-at-step.ensures.value b.pairs in
+    let v : c.compare_at-step.result.pairs ≤ length (map g.S.Ordered.symbol c.args.word.now) = rw c.compare_at-step.ensures.value b.pairs in
     let l = length-map c.args.word.now g.S.Ordered.symbol in
     omega arith
 
@@ -41,8 +41,8 @@ loop-at-smaller-in-Less g c = (here_turn c.loop-at.invariant.0 (omega arith)).sm
 pub loop-at-preserved-in-Less : goal.loop-at-preserved-in-Less
 loop-at-preserved-in-Less g c =
     let l = length-map c.args.word.now g.S.Ordered.symbol in (
-      go_left c.loop-at.invariant.0 (omega arith) c.compare-at-step.result c.compare-at-step.ensures.value (omega arith) c.in-Less.is,
-      λ q. (let a = c.loop-at.invariant.1 (omega arith) in let b = c.compare-at-step.ensures.asked (omega arith) in omega arith),
+      go_left c.loop-at.invariant.0 (omega arith) c.compare_at-step.result c.compare_at-step.ensures.value (omega arith) c.in-Less.is,
+      λ q. (let a = c.loop-at.invariant.1 (omega arith) in let b = c.compare_at-step.ensures.asked (omega arith) in omega arith),
       omega arith,
     )
 
@@ -52,15 +52,15 @@ loop-at-smaller g c = (here_turn c.loop-at.invariant.0 (omega arith)).smaller_ri
 pub loop-at-preserved : goal.loop-at-preserved
 loop-at-preserved g c =
     let l = length-map c.args.word.now g.S.Ordered.symbol in (
-      go_right c.loop-at.invariant.0 (omega arith) c.compare-at-step.result c.compare-at-step.ensures.value (omega arith) c.in-Greater.is,
-      λ q. (let a = c.loop-at.invariant.1 (omega arith) in let b = c.compare-at-step.ensures.asked (omega arith) in omega arith),
+      go_right c.loop-at.invariant.0 (omega arith) c.compare_at-step.result c.compare_at-step.ensures.value (omega arith) c.in-Greater.is,
+      λ q. (let a = c.loop-at.invariant.1 (omega arith) in let b = c.compare_at-step.ensures.asked (omega arith) in omega arith),
       omega arith,
     )
 
 pub returns-in-Equal : goal.returns-in-Equal
 returns-in-Equal g c = record {
-  walks = found_here c.loop-at.invariant.0 (omega arith) c.compare-at-step.result c.compare-at-step.ensures.value c.in-Equal.is;
-  asked = λ q. (let a = c.loop-at.invariant.1 (omega arith) in let b = c.compare-at-step.ensures.asked (omega arith) in omega arith);
+  walks = found_here c.loop-at.invariant.0 (omega arith) c.compare_at-step.result c.compare_at-step.ensures.value c.in-Equal.is;
+  asked = λ q. (let a = c.loop-at.invariant.1 (omega arith) in let b = c.compare_at-step.ensures.asked (omega arith) in omega arith);
 }
 
 pub returns : goal.returns
