@@ -2,8 +2,8 @@ use Rattle.std.proofs.Common.{◌≡◌, ℕ, List, length, get_or, sym, ap, ◌
 use Rattle.console.proofs.Numerals.{parsed, signed, empty}
 use Rattle.console.proofs.text.number.Goals as goal
 
-pub returns-then-is-empty : goal.returns-then-is-empty
-returns-then-is-empty c = empty 64 c.args.text.now (search rules)
+pub returns-then-is_empty : goal.returns-then-is_empty
+returns-then-is_empty c = empty 64 c.args.text.now (search rules)
 
 pub returns-then-digits-eq43 : goal.returns-then-digits-eq43
 returns-then-digits-eq43 c = signed 64 c.args.text.now (search rules)

@@ -9,7 +9,7 @@ use Rattle.lent.specs.Unzips.{HookIn, Unzipped}
 use Rattle.lent.proofs.Growing.{begin, in_memory, free_here, goes_right, goes_left, ends, hook_in, Down}
 use Rattle.lent.proofs.attach.attach.Given as given
 use Rattle.lent.proofs.attach.attach.Goals as goal
-use Rattle.lent.proofs.attach.attach.Goals.{then-is-gt, else-is-gt, else-loop-at-test, then-loop-at-test+then-not-stays-above}
+use Rattle.lent.proofs.attach.attach.Goals.{then-is_gt, else-is_gt, else-loop-at-test, then-loop-at-test+then-not-stays_above}
 
 pub loop-at-init : goal.loop-at-init
 loop-at-init g c = (
@@ -17,26 +17,26 @@ loop-at-init g c = (
   omega arith,
 )
 
-pub overflow-cast-at : goal.overflow-cast-at
-overflow-cast-at g c = omega arith
+pub overflow_cast-at : goal.overflow_cast-at
+overflow_cast-at g c = omega arith
 
-pub compare-in-step-requires : goal.compare-in-step-requires
-compare-in-step-requires g c =
+pub compare_in-step-requires : goal.compare_in-step-requires
+compare_in-step-requires g c =
     let m = in_memory c.loop-at.invariant.0 (omega arith) (length c.args.memory.now.strip.now) c.requires.free.strip in
     record { slot = m.0; word = m.1 }
 
 -- the step by the word that was handed over is the step by the word at the place
-step_is : (g : given.Over) (c : goal.After-child-at g) → c.compare-in-step.result ≡ compared_at g.S.Ordered.order ((entry_of g.S.Ordered.symbol c.args.memory.now) c.args.place).word (entry_of g.S.Ordered.symbol c.args.memory.now) c.args.memory.now.table.now c.loop-at.at c.loop-at.shares
-step_is g c = c.compare-in-step.ensures.value ∙ ap (λ (w : List ℕ). compared_at g.S.Ordered.order w (entry_of g.S.Ordered.symbol c.args.memory.now) c.args.memory.now.table.now c.loop-at.at c.loop-at.shares) c.requires.word
+step_is : (g : given.Over) (c : goal.After-child-at g) → c.compare_in-step.result ≡ compared_at g.S.Ordered.order ((entry_of g.S.Ordered.symbol c.args.memory.now) c.args.place).word (entry_of g.S.Ordered.symbol c.args.memory.now) c.args.memory.now.table.now c.loop-at.at c.loop-at.shares
+step_is g c = c.compare_in-step.ensures.value ∙ ap (λ (w : List ℕ). compared_at g.S.Ordered.order w (entry_of g.S.Ordered.symbol c.args.memory.now) c.args.memory.now.table.now c.loop-at.at c.loop-at.shares) c.requires.word
 
-down : (g : given.Over) (c : goal.After-child-at g) → Down c.loop-at.invariant.0 c.if-is-gt.hook c.child-at.result c.if-is-gt.shares
+down : (g : given.Over) (c : goal.After-child-at g) → Down c.loop-at.invariant.0 c.if-is_gt.hook c.child-at.result c.if-is_gt.shares
 down g c =
-    let stays = sym c.stays-above.ensures ∙ c.if-not-stays-above.false in
-    elim c.if-is-gt.branch [
-      | then-is-gt w ↦ goes_right c.loop-at.invariant.0 (omega arith) c.compare-in-step.result (step_is g c) stays c.if-is-gt.hook c.if-is-gt.shares c.child-at.result c.child-at.ensures
-          (sym c.is-gt.ensures ∙ w.if-is-gt.true) w.hook-is w.shares-is
-      | else-is-gt w ↦ goes_left c.loop-at.invariant.0 (omega arith) c.compare-in-step.result (step_is g c) stays c.if-is-gt.hook c.if-is-gt.shares c.child-at.result c.child-at.ensures
-          (sym c.is-gt.ensures ∙ w.if-is-gt.false) w.hook-is w.shares-is
+    let stays = sym c.stays_above.ensures ∙ c.if-not-stays_above.false in
+    elim c.if-is_gt.branch [
+      | then-is_gt w ↦ goes_right c.loop-at.invariant.0 (omega arith) c.compare_in-step.result (step_is g c) stays c.if-is_gt.hook c.if-is_gt.shares c.child-at.result c.child-at.ensures
+          (sym c.is_gt.ensures ∙ w.if-is_gt.true) w.hook-is w.shares-is
+      | else-is_gt w ↦ goes_left c.loop-at.invariant.0 (omega arith) c.compare_in-step.result (step_is g c) stays c.if-is_gt.hook c.if-is_gt.shares c.child-at.result c.child-at.ensures
+          (sym c.is_gt.ensures ∙ w.if-is_gt.false) w.hook-is w.shares-is
     ]
 
 pub loop-at-smaller : goal.loop-at-smaller
@@ -59,15 +59,15 @@ unzip-requires g c =
       short = c.requires.short;
     }
 
-pub overflow-cast-shares : goal.overflow-cast-shares
-overflow-cast-shares g c =
+pub overflow_cast-shares : goal.overflow_cast-shares
+overflow_cast-shares g c =
     let l = length-map c.args.word.now g.S.Ordered.symbol in
     let w = ap length c.requires.word in
     let b = c.loop-at.invariant.0.before in
     omega (arith, l, w, b, c.requires.short)
 
-pub overflow-cast-shares-2 : goal.overflow-cast-shares-2
-overflow-cast-shares-2 g c =
+pub overflow_cast-shares-2 : goal.overflow_cast-shares-2
+overflow_cast-shares-2 g c =
     let l = length-map c.args.word.now g.S.Ordered.symbol in
     let w = ap length c.requires.word in
     let a = c.loop-at.invariant.0.after in
@@ -84,9 +84,9 @@ returns g c = record {
       -- the loop ends where nothing is left, or at an entry that the new one outranks
       (elim c.loop-at-test.branch [
         | else-loop-at-test w ↦ inl (let e = w.loop-at-test.false in omega arith)
-        | then-loop-at-test+then-not-stays-above w ↦ inr (subst (λ (y : Comparison). is_above g.S.Ordered.order ((entry_of g.S.Ordered.symbol c.args.memory.now) c.loop-at.at) ((entry_of g.S.Ordered.symbol c.args.memory.now) c.args.place) y ≡ false)
-            (w.compare-in-step.ensures.value ∙ ap (λ (w : List ℕ). compared_at g.S.Ordered.order w (entry_of g.S.Ordered.symbol c.args.memory.now) c.args.memory.now.table.now c.loop-at.at c.loop-at.shares) c.requires.word)
-            (sym w.stays-above.ensures ∙ w.if-not-stays-above.true))
+        | then-loop-at-test+then-not-stays_above w ↦ inr (subst (λ (y : Comparison). is_above g.S.Ordered.order ((entry_of g.S.Ordered.symbol c.args.memory.now) c.loop-at.at) ((entry_of g.S.Ordered.symbol c.args.memory.now) c.args.place) y ≡ false)
+            (w.compare_in-step.ensures.value ∙ ap (λ (w : List ℕ). compared_at g.S.Ordered.order w (entry_of g.S.Ordered.symbol c.args.memory.now) c.args.memory.now.table.now c.loop-at.at c.loop-at.shares) c.requires.word)
+            (sym w.stays_above.ensures ∙ w.if-not-stays_above.true))
       ])
       -- what unzip did, said with the word at the place
       (subst (λ (w : List ℕ). Unzipped g.S.Ordered.order (entry_of g.S.Ordered.symbol c.args.memory.now) c.args.memory.now.limits.capacity w c.loop-at.shares.before c.loop-at.shares.after c.args.place (rooted c.args.memory.now.table.now c.args.memory.now.limits.capacity c.loop-at.at) c.args.memory.now.table.now c.unzip.new.memory.table.now)

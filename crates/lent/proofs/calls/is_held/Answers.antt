@@ -8,4 +8,4 @@ find-requires g c = record { sound = c.requires.filled.sound; short = c.requires
 
 pub returns : goal.returns
 returns g c =
-    c.is-some.ensures ∙ sym (some_mapped (entry_of g.S.Ordered.symbol c.args.memory.now) c.find.result.found) ∙ ap is_some c.find.ensures.walks.found
+    c.is_some.ensures ∙ sym (some_mapped (entry_of g.S.Ordered.symbol c.args.memory.now) c.find.result.found) ∙ ap is_some c.find.ensures.walks.found

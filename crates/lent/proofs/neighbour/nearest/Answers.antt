@@ -13,8 +13,8 @@ loop-at-init g c = (
   omega arith,
 )
 
-pub compare-in-step-requires : goal.compare-in-step-requires
-compare-in-step-requires g c =
+pub compare_in-step-requires : goal.compare_in-step-requires
+compare_in-step-requires g c =
     let below : c.loop-at.at < c.args.memory.now.limits.capacity = omega arith in
     record {
       slot = omega arith;
@@ -22,19 +22,19 @@ compare-in-step-requires g c =
           below (c.requires.words c.loop-at.at (inside_here c.loop-at.invariant.0 below)) c.requires.strip;
     }
 
-to_right : (g : given.Over) (c : goal.After-child-at g) → Going c.loop-at.invariant.0 (omega arith) c.compare-in-step.result c.compare-in-step.ensures.value c.child-at.result (record { before = c.compare-in-step.result.share; after = c.loop-at.shares.after }) c.on-side-best.result
+to_right : (g : given.Over) (c : goal.After-child-at g) → Going c.loop-at.invariant.0 (omega arith) c.compare_in-step.result c.compare_in-step.ensures.value c.child-at.result (record { before = c.compare_in-step.result.share; after = c.loop-at.shares.after }) c.on_side-best.result
 to_right g c =
-    go_right c.loop-at.invariant.0 (omega arith) c.compare-in-step.result c.compare-in-step.ensures.value (sym c.turns-right.ensures ∙ c.if-turns-right.true) c.child-at.result c.child-at.ensures c.on-side-best.result c.on-side-best.ensures
+    go_right c.loop-at.invariant.0 (omega arith) c.compare_in-step.result c.compare_in-step.ensures.value (sym c.turns_right.ensures ∙ c.if-turns_right.true) c.child-at.result c.child-at.ensures c.on_side-best.result c.on_side-best.ensures
 
-to_left : (g : given.Over) (c : goal.After-child-at-else-turns-right g) → Going c.loop-at.invariant.0 (omega arith) c.compare-in-step.result c.compare-in-step.ensures.value c.child-at-else-turns-right.result (record { before = c.loop-at.shares.before; after = c.compare-in-step.result.share }) c.on-side-best-else-turns-right.result
+to_left : (g : given.Over) (c : goal.After-child-at-else-turns_right g) → Going c.loop-at.invariant.0 (omega arith) c.compare_in-step.result c.compare_in-step.ensures.value c.child-at-else-turns_right.result (record { before = c.loop-at.shares.before; after = c.compare_in-step.result.share }) c.on_side-best-else-turns_right.result
 to_left g c =
-    go_left c.loop-at.invariant.0 (omega arith) c.compare-in-step.result c.compare-in-step.ensures.value (sym c.turns-right.ensures ∙ c.if-turns-right.false) c.child-at-else-turns-right.result c.child-at-else-turns-right.ensures c.on-side-best-else-turns-right.result c.on-side-best-else-turns-right.ensures
+    go_left c.loop-at.invariant.0 (omega arith) c.compare_in-step.result c.compare_in-step.ensures.value (sym c.turns_right.ensures ∙ c.if-turns_right.false) c.child-at-else-turns_right.result c.child-at-else-turns_right.ensures c.on_side-best-else-turns_right.result c.on_side-best-else-turns_right.ensures
 
-pub loop-at-smaller-then-turns-right : goal.loop-at-smaller-then-turns-right
-loop-at-smaller-then-turns-right g c = (to_right g c).1
+pub loop-at-smaller-then-turns_right : goal.loop-at-smaller-then-turns_right
+loop-at-smaller-then-turns_right g c = (to_right g c).1
 
-pub loop-at-preserved-then-turns-right : goal.loop-at-preserved-then-turns-right
-loop-at-preserved-then-turns-right g c = ((to_right g c).0, omega arith)
+pub loop-at-preserved-then-turns_right : goal.loop-at-preserved-then-turns_right
+loop-at-preserved-then-turns_right g c = ((to_right g c).0, omega arith)
 
 pub loop-at-smaller : goal.loop-at-smaller
 loop-at-smaller g c = (to_left g c).1

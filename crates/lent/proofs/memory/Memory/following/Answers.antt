@@ -11,29 +11,29 @@ use Rattle.lent.proofs.memory.Memory.following.Goals as goal
 pub nearest-requires : goal.nearest-requires
 nearest-requires g c = c.requires.sound
 
-pub entry-at-requires : goal.entry-at-requires
-entry-at-requires g c =
+pub entry_at-requires : goal.entry_at-requires
+entry_at-requires g c =
     let m = c.args.self.now in
     let sound = c.requires.sound in
-    let i = c.nearest.ensures.held c.in-ok-place.place c.in-ok-place.was in
-    let below = in_table m.table.now m.limits.capacity m.top c.in-ok-place.place (places m) sound.stands i in
+    let i = c.nearest.ensures.held c.in_ok-place.place c.in_ok-place.was in
+    let below = in_table m.table.now m.limits.capacity m.top c.in_ok-place.place (places m) sound.stands i in
     record {
       slot = (let r = sound.room in omega arith);
-      word = in_strip c.in-ok-place.place m.limits.capacity m.limits.ceiling (slot_at m.table.now c.in-ok-place.place).length (length m.strip.now) below (sound.words c.in-ok-place.place i) sound.strip;
+      word = in_strip c.in_ok-place.place m.limits.capacity m.limits.ceiling (slot_at m.table.now c.in_ok-place.place).length (length m.strip.now) below (sound.words c.in_ok-place.place i) sound.strip;
     }
 
-pub returns-in-err-place : goal.returns-in-err-place
-returns-in-err-place g c = λ K.
+pub returns-in_err-place : goal.returns-in_err-place
+returns-in_err-place g c = λ K.
     let m = c.args.self.now in
     let sound = c.requires.sound in
-    ap (option_map (listing g.S.Ordered.symbol)) c.from-residual.ensures
-    ∙ sym (ap (option_map (listed_at g.S.Ordered.symbol m)) c.in-err-place.was)
+    ap (option_map (listing g.S.Ordered.symbol)) c.from_residual.ensures
+    ∙ sym (ap (option_map (listed_at g.S.Ordered.symbol m)) c.in_err-place.was)
     ∙ nearest_listed g.S.Ordered.order g.met.S.Ordered.lawful g.S.Ordered.symbol m sound.stands K Right (map g.S.Ordered.symbol c.args.word.now) c.nearest.result c.nearest.ensures.entry c.nearest.ensures.held
 
 pub returns : goal.returns
 returns g c = λ K.
     let m = c.args.self.now in
     let sound = c.requires.sound in
-    ap Some c.entry-at.ensures
-    ∙ sym (ap (option_map (listed_at g.S.Ordered.symbol m)) c.in-ok-place.was)
+    ap Some c.entry_at.ensures
+    ∙ sym (ap (option_map (listed_at g.S.Ordered.symbol m)) c.in_ok-place.was)
     ∙ nearest_listed g.S.Ordered.order g.met.S.Ordered.lawful g.S.Ordered.symbol m sound.stands K Right (map g.S.Ordered.symbol c.args.word.now) c.nearest.result c.nearest.ensures.entry c.nearest.ensures.held

@@ -13,11 +13,11 @@ find-walk-requires g c =
     let sound = c.requires.sound in
     record {
       sound = sound;
-      short = (let s = sound.short in let f = word_fits c.args.self.now.limits _ (sym c.in-ok-check-word.ensures) in omega arith);
+      short = (let s = sound.short in let f = word_fits c.args.self.now.limits _ (sym c.in_ok-check_word.ensures) in omega arith);
     }
 
-pub held-at-requires : goal.held-at-requires
-held-at-requires g c =
+pub held_at-requires : goal.held_at-requires
+held_at-requires g c =
     let sound = c.requires.sound in
     λ p e. (let i = in_table c.args.self.now.table.now c.args.self.now.limits.capacity c.args.self.now.top p (places c.args.self.now) sound.stands (c.find-walk.ensures.walks.held p e) in let r = sound.room in omega arith)
 
@@ -25,9 +25,9 @@ pub returns : goal.returns
 returns g c =
     let x = c.find-walk.ensures.walks in
     record {
-      refused = c.in-ok-check-word.ensures;
+      refused = c.in_ok-check_word.ensures;
       looked = λ y e. ok_is (LookedOf (lookup g.S.Ordered.order (map g.S.Ordered.symbol c.args.word.now) 0 0 (tree g.S.Ordered.symbol c.args.self.now))) _ y e (record {
-        found = c.held-at.ensures ∙ sym (mapped_mapped (entry_of g.S.Ordered.symbol c.args.self.now) held_of c.find-walk.result.found) ∙ ap (option_map held_of) x.found;
+        found = c.held_at.ensures ∙ sym (mapped_mapped (entry_of g.S.Ordered.symbol c.args.self.now) held_of c.find-walk.result.found) ∙ ap (option_map held_of) x.found;
         met = x.met;
         pairs = x.pairs;
       });
