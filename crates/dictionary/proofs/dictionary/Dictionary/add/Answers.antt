@@ -4,5 +4,5 @@ use Rattle.dictionary.proofs.dictionary.Dictionary.add.Goals as goal
 pub add-requires : goal.add-requires
 add-requires g c = filled_out c.args.self.now.filled
 
-pub invariant-of-self : goal.invariant-of-self
-invariant-of-self g c = (∣ c.add.ensures.filled ∣₁, tt)
+pub invariant_of-self : goal.invariant_of-self
+invariant_of-self g c = record { filled = ∣ c.add.ensures.filled ∣₁ }

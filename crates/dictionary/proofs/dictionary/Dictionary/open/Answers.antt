@@ -2,8 +2,8 @@ use Rattle.lent.proofs.Empty.{none_held}
 use Rattle.dictionary.proofs.Trees.{same_tree}
 use Rattle.dictionary.proofs.dictionary.Dictionary.open.Goals as goal
 
-pub invariant-of-result : goal.invariant-of-result
-invariant-of-result g c = (∣ c.open.ensures.filled ∣₁, tt)
+pub invariant_of-result : goal.invariant_of-result
+invariant_of-result g c = record { filled = ∣ c.open.ensures.filled ∣₁ }
 
 pub returns : goal.returns
 returns g c =
