@@ -1,5 +1,5 @@
 ghost use Rattle.std.specs.Prelude.{◌≡◌, ◌<◌, length, IfSome, IfOk};
-ghost use Rattle.std.specs.List.{AllByRecursion as All};
+ghost use Rattle.std.specs.List.{AllByRecursion};
 ghost use Rattle.console.specs.Commands.{Worded, kind_name};
 ghost use Rattle.console.specs.Texts.{numeral};
 
@@ -38,7 +38,7 @@ pub enum Command<'a> {
 
 // The words of a line, apart by spaces and tabs. None is empty.
 pub fn split_words(heap: Global, line: &str) -> Result<Vec<&str>, AllocError>
-    ensures { IfOk result (λ v. All (λ w. 0 < length w.now) v.items) }
+    ensures { IfOk result (λ v. AllByRecursion (λ w. 0 < length w.now) v.items) }
 {
     let mut words = Vec::new(heap);
     for word in line.split([' ', '\t']) {

@@ -3,5 +3,6 @@ pub mod Bytes
 pub mod Codecs
 pub mod Letters
 pub mod PenElements
-pub mod Codes
 pub mod Numbers
+pub mod Codes
+pub mod Laws

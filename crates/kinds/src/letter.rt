@@ -3,8 +3,7 @@ ghost use Rattle.std.specs.Option.{option_map};
 ghost use Rattle.kinds.specs.Codecs.{below};
 ghost use Rattle.kinds.specs.Letters.{code_point, letters};
 ghost use Rattle.kinds.specs.Orders.{number_order};
-ghost use Rattle.std.proofs.Common.{rules, arith};
-ghost use Rattle.kinds.specs.Codes.{numbers_faithful};
+ghost use Rattle.kinds.specs.Laws.{each_letter, letters_faithful, number_order_lawful};
 
 use crate::kind::{Ordered, Written, by_number};
 use std::cmp::Ordering;
@@ -46,7 +45,7 @@ impl Ordered for Letter {
 
     ghost order = { number_order };
 
-    ghost lawful = { Prim.search rules };
+    ghost lawful = { number_order_lawful };
 
     fn compare(&self, other: &Letter) -> Ordering {
         by_number(self.code(), other.code())
@@ -56,9 +55,9 @@ impl Ordered for Letter {
 impl Written for Letter {
     ghost codec = { letters };
 
-    ghost faithful = { numbers_faithful 1114112 3 (omega arith) (omega arith) (omega arith) };
+    ghost faithful = { letters_faithful };
 
-    ghost each = { Prim.search rules };
+    ghost each = { each_letter };
 
     fn width() -> usize {
         WIDTH

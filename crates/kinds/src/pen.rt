@@ -3,8 +3,7 @@ ghost use Rattle.std.specs.Option.{option_map};
 ghost use Rattle.kinds.specs.Codecs.{below};
 ghost use Rattle.kinds.specs.Orders.{number_order};
 ghost use Rattle.kinds.specs.PenElements.{as_move, class_number, direction_number, element_number, pen_elements};
-ghost use Rattle.std.proofs.Common.{rules, arith};
-ghost use Rattle.kinds.specs.Codes.{numbers_faithful};
+ghost use Rattle.kinds.specs.Laws.{each_element, number_order_lawful, pen_elements_faithful};
 
 use crate::kind::{Ordered, Written, by_number};
 use std::cmp::Ordering;
@@ -147,7 +146,7 @@ impl Ordered for PenElement {
 
     ghost order = { number_order };
 
-    ghost lawful = { Prim.search rules };
+    ghost lawful = { number_order_lawful };
 
     fn compare(&self, other: &PenElement) -> Ordering {
         by_number(u32::from(self.number()), u32::from(other.number()))
@@ -157,9 +156,9 @@ impl Ordered for PenElement {
 impl Written for PenElement {
     ghost codec = { pen_elements };
 
-    ghost faithful = { numbers_faithful 65 1 (omega arith) (omega arith) (omega arith) };
+    ghost faithful = { pen_elements_faithful };
 
-    ghost each = { Prim.search rules };
+    ghost each = { each_element };
 
     fn width() -> usize {
         WIDTH

@@ -1,7 +1,7 @@
 -- A lookup that comes to an entry has met its ancestors, and nothing else.
 use Rattle.std.proofs.Common.{◌≡◌, ℕ, Bool, true, false, cond, ◌&&◌, List, [], ◌∷◌, ◌++◌, Some, None, filter, Option, Ordering, Less, sym, refl, ap, ◌∙◌, append-nil}
 use Rattle.std.specs.Ordering.{is_le}
-use Rattle.std.specs.List.{AllByRecursion as All}
+use Rattle.std.specs.List.{AllByRecursion}
 use Rattle.std.proofs.lemmas.List.Elements.{filter-append}
 use Rattle.std.proofs.ByRecursion.{All-append, All-weaker}
 use Rattle.std.proofs.lemmas.Bool.{and_right}
@@ -23,7 +23,7 @@ AncestorsAre f lows highs (top l e m n r) = (f e ≡ lows ++ highs) × Ancestors
 module _ (order : ℕ → ℕ → Ordering) (law : Lawful order) where
   -- each of these outranks all of kept-by
   abbrev pub OverAll : List Entry → List Entry → Type 0
-  OverAll xs ys = All (λ f. All (λ g. outranks order f g ≡ true) ys) xs
+  OverAll xs ys = AllByRecursion (λ f. AllByRecursion (λ g. outranks order f g ≡ true) ys) xs
 
   -- around a subtree, a lookup of any word that belongs into it meets lows and highs
   pub record MetAround (es b : List Entry) (lo : Option Entry) (s : Tree) (hi : Option Entry) (a lows highs : List Entry) : Type 0 where
@@ -43,10 +43,10 @@ module _ (order : ℕ → ℕ → Ordering) (law : Lawful order) where
           ap (λ (t : Bool). cond t (e ∷ filter (meets order es w) rest) (filter (meets order es w) rest)) (top_met order law es b lo l e m n r hi a w h p high)
           ∙ ap (λ (z : List Entry). e ∷ z) (filter-append (meets order es w) (entries r) (on_from hi a)
           ∙ ap (λ (z : List Entry). z ++ filter (meets order es w) (on_from hi a)) (none_right order law es b lo l e m n r hi a h w (ap is_le q.0)) ∙ c.higher w p high);
-      lower_over = All-weaker (λ f. All (λ g. outranks order f g ≡ true) (entries l ++ (e ∷ entries r))) (λ f. All (λ g. outranks order f g ≡ true) (entries l)) (λ f k. all_left (λ g. outranks order f g ≡ true) (entries l) (e ∷ entries r) k) lows c.lower_over;
+      lower_over = All-weaker (λ f. AllByRecursion (λ g. outranks order f g ≡ true) (entries l ++ (e ∷ entries r))) (λ f. AllByRecursion (λ g. outranks order f g ≡ true) (entries l)) (λ f k. all_left (λ g. outranks order f g ≡ true) (entries l) (e ∷ entries r) k) lows c.lower_over;
       higher_over = (
         (ranked_of order l e m n r h.rank).over_left,
-        All-weaker (λ f. All (λ g. outranks order f g ≡ true) (entries l ++ (e ∷ entries r))) (λ f. All (λ g. outranks order f g ≡ true) (entries l)) (λ f k. all_left (λ g. outranks order f g ≡ true) (entries l) (e ∷ entries r) k) highs c.higher_over,
+        All-weaker (λ f. AllByRecursion (λ g. outranks order f g ≡ true) (entries l ++ (e ∷ entries r))) (λ f. AllByRecursion (λ g. outranks order f g ≡ true) (entries l)) (λ f k. all_left (λ g. outranks order f g ≡ true) (entries l) (e ∷ entries r) k) highs c.higher_over,
       );
     }
 
@@ -61,10 +61,10 @@ module _ (order : ℕ → ℕ → Ordering) (law : Lawful order) where
           ∙ ap (λ (z : List Entry). z ++ filter (meets order es w) (e ∷ [])) one
           ∙ ap (λ (t : Bool). lows ++ cond t (e ∷ []) []) (top_met order law es b lo l e m n r hi a w h low q);
       higher = λ w p q. c.higher w (all_left (λ f. word_order order f.word w ≡ Less) (up_to b lo) (entries l) (all_left (λ f. word_order order f.word w ≡ Less) (up_to b lo ++ entries l) (e ∷ []) p)) q;
-      lower_over = All-append (λ f. All (λ g. outranks order f g ≡ true) (entries r)) lows (e ∷ [])
-          (All-weaker (λ f. All (λ g. outranks order f g ≡ true) (entries l ++ (e ∷ entries r))) (λ f. All (λ g. outranks order f g ≡ true) (entries r)) (λ f k. (all_right (λ g. outranks order f g ≡ true) (entries l) (e ∷ entries r) k).1) lows c.lower_over)
+      lower_over = All-append (λ f. AllByRecursion (λ g. outranks order f g ≡ true) (entries r)) lows (e ∷ [])
+          (All-weaker (λ f. AllByRecursion (λ g. outranks order f g ≡ true) (entries l ++ (e ∷ entries r))) (λ f. AllByRecursion (λ g. outranks order f g ≡ true) (entries r)) (λ f k. (all_right (λ g. outranks order f g ≡ true) (entries l) (e ∷ entries r) k).1) lows c.lower_over)
           ((ranked_of order l e m n r h.rank).over_right, tt);
-      higher_over = All-weaker (λ f. All (λ g. outranks order f g ≡ true) (entries l ++ (e ∷ entries r))) (λ f. All (λ g. outranks order f g ≡ true) (entries r)) (λ f k. (all_right (λ g. outranks order f g ≡ true) (entries l) (e ∷ entries r) k).1) highs c.higher_over;
+      higher_over = All-weaker (λ f. AllByRecursion (λ g. outranks order f g ≡ true) (entries l ++ (e ∷ entries r))) (λ f. AllByRecursion (λ g. outranks order f g ≡ true) (entries r)) (λ f k. (all_right (λ g. outranks order f g ≡ true) (entries l) (e ∷ entries r) k).1) highs c.higher_over;
     }
 
     -- a lookup of w that comes to e has met e's ancestors
@@ -81,7 +81,7 @@ module _ (order : ℕ → ℕ → Ordering) (law : Lawful order) where
         ∙ kept_none (λ f. meets order es w f && over f) (entries s)
         (All-weaker (λ f. outranks order f e ≡ false) (λ f. (meets order es w f && over f) ≡ false) (λ f k. and_right (meets order es w f) (over f) k) (entries s) (not_over_top order law l e m n r h.rank)) in
         let at_e : (xs : List Entry) → OverAll xs (entries s) → filter over xs ≡ xs =
-        λ xs k. kept_all over xs (All-weaker (λ f. All (λ g. outranks order f g ≡ true) (entries s)) (λ f. over f ≡ true) (λ f j. all_at (λ g. outranks order f g ≡ true) (entries l) e (entries r) j) xs k) in
+        λ xs k. kept_all over xs (All-weaker (λ f. AllByRecursion (λ g. outranks order f g ≡ true) (entries s)) (λ f. over f ≡ true) (λ f j. all_at (λ g. outranks order f g ≡ true) (entries l) e (entries r) j) xs k) in
         ap (filter over) split ∙ filter-append over lows (filter (meets order es w) (entries s) ++ highs)
         ∙ ap (λ (z : List Entry). z ++ filter over (filter (meets order es w) (entries s) ++ highs)) (at_e lows c.lower_over)
         ∙ ap (λ (z : List Entry). lows ++ z) (filter-append over (filter (meets order es w) (entries s)) highs ∙ ap (λ (z : List Entry). z ++ filter over highs) mid ∙ at_e highs c.higher_over)

@@ -1,7 +1,7 @@
 -- The tree of a list with one entry more.
 use Rattle.std.proofs.Common.{◌≡◌, ℕ, Bool, true, false, cond, List, [], ◌∷◌, ◌++◌, Some, None, filter, Option, Ordering, Less, Equal, Greater, sym, refl, ap, ◌∙◌, subst, inl, inr, append_assoc, append-nil}
 use Rattle.std.specs.Ordering.{is_lt}
-use Rattle.std.specs.List.{AllByRecursion as All}
+use Rattle.std.specs.List.{AllByRecursion}
 use Rattle.std.proofs.lemmas.List.Elements.{filter-append}
 use Rattle.std.proofs.ByRecursion.{All-append, All-weaker}
 use Rattle.kinds.specs.Orders.{Lawful}
@@ -19,14 +19,14 @@ use Rattle.rules.proofs.Trees.{RankedTop, ranked_of, ranked_to, by}
 
 -- no entry has the word w
 abbrev pub Lacks : List ℕ → List Entry → Type 0
-Lacks w es = All (λ f. w ≡ f.word → ⊥) es
+Lacks w es = AllByRecursion (λ f. w ≡ f.word → ⊥) es
 
 module _ (order : ℕ → ℕ → Ordering) where
   -- ---- what holds of each entry
-  pub all_lesser : (P : Entry → Type 0) (w : List ℕ) (t : Tree) → All P (entries t) → All P (entries (lesser order w t))
+  pub all_lesser : (P : Entry → Type 0) (w : List ℕ) (t : Tree) → AllByRecursion P (entries t) → AllByRecursion P (entries (lesser order w t))
   all_lesser P w nothing h = tt
   all_lesser P w (top l e m n r) h =
-      elim (word_order order w e.word) as (λ o. All P (entries (turned o (lesser order w l) (lesser order w l) (top l e m (shared w e.word) (lesser order w r))))) [
+      elim (word_order order w e.word) as (λ o. AllByRecursion P (entries (turned o (lesser order w l) (lesser order w l) (top l e m (shared w e.word) (lesser order w r))))) [
         | Less ↦ all_lesser P w l (all_left P (entries l) (e ∷ entries r) h)
         | Equal ↦ all_lesser P w l (all_left P (entries l) (e ∷ entries r) h)
         | Greater ↦
@@ -34,10 +34,10 @@ module _ (order : ℕ → ℕ → Ordering) where
             (all_at P (entries l) e (entries r) h, all_lesser P w r (all_right P (entries l) (e ∷ entries r) h).1)
       ]
 
-  pub all_greater : (P : Entry → Type 0) (w : List ℕ) (t : Tree) → All P (entries t) → All P (entries (greater order w t))
+  pub all_greater : (P : Entry → Type 0) (w : List ℕ) (t : Tree) → AllByRecursion P (entries t) → AllByRecursion P (entries (greater order w t))
   all_greater P w nothing h = tt
   all_greater P w (top l e m n r) h =
-      elim (word_order order w e.word) as (λ o. All P (entries (turned o (top (greater order w l) e (shared w e.word) n r) (greater order w r) (greater order w r)))) [
+      elim (word_order order w e.word) as (λ o. AllByRecursion P (entries (turned o (top (greater order w l) e (shared w e.word) n r) (greater order w r) (greater order w r)))) [
         | Less ↦
             All-append P (entries (greater order w l)) (e ∷ entries r) (all_greater P w l (all_left P (entries l) (e ∷ entries r) h))
             (all_right P (entries l) (e ∷ entries r) h)
@@ -45,13 +45,13 @@ module _ (order : ℕ → ℕ → Ordering) where
         | Greater ↦ all_greater P w r (all_right P (entries l) (e ∷ entries r) h).1
       ]
 
-  pub all_inserted : (P : Entry → Type 0) (e : Entry) (kb ka : ℕ) (t : Tree) → P e → All P (entries t) → All P (entries (inserted order e kb ka t))
+  pub all_inserted : (P : Entry → Type 0) (e : Entry) (kb ka : ℕ) (t : Tree) → P e → AllByRecursion P (entries t) → AllByRecursion P (entries (inserted order e kb ka t))
   all_inserted P e kb ka nothing p h = (p, tt)
   all_inserted P e kb ka (top l f m n r) p h =
-      elim (outranks order f e) as (λ b. All P (entries (cond b
+      elim (outranks order f e) as (λ b. AllByRecursion P (entries (cond b
       (turned (word_order order e.word f.word) (top (inserted order e kb (shared e.word f.word) l) f m n r) (top l f m n r) (top l f m n (inserted order e (shared e.word f.word) ka r)))
       (top (lesser order e.word (top l f m n r)) e kb ka (greater order e.word (top l f m n r)))))) [
-        | true ↦ elim (word_order order e.word f.word) as (λ o. All P (entries (turned o (top (inserted order e kb (shared e.word f.word) l) f m n r) (top l f m n r) (top l f m n (inserted order e (shared e.word f.word) ka r))))) [
+        | true ↦ elim (word_order order e.word f.word) as (λ o. AllByRecursion P (entries (turned o (top (inserted order e kb (shared e.word f.word) l) f m n r) (top l f m n r) (top l f m n (inserted order e (shared e.word f.word) ka r))))) [
           | Less ↦
               All-append P (entries (inserted order e kb (shared e.word f.word) l)) (f ∷ entries r)
               (all_inserted P e kb (shared e.word f.word) l p (all_left P (entries l) (f ∷ entries r) h)) (all_right P (entries l) (f ∷ entries r) h)
@@ -244,9 +244,9 @@ module _ (order : ℕ → ℕ → Ordering) (law : Lawful order) where
         ])
         (λ o.
         let u : outranks order e f ≡ true = outranks_other order law f e (λ q. all_at (λ g. w ≡ g.word → ⊥) (entries l) f (entries r) lacks (sym q)) o in
-        let up : (xs : List Entry) → All (λ g. outranks order f g ≡ true) xs → All (λ g. outranks order e g ≡ true) xs =
+        let up : (xs : List Entry) → AllByRecursion (λ g. outranks order f g ≡ true) xs → AllByRecursion (λ g. outranks order e g ≡ true) xs =
         All-weaker (λ g. outranks order f g ≡ true) (λ g. outranks order e g ≡ true) (λ g v. outranks_chains order law e f g u v) in
-        let over : All (λ g. outranks order e g ≡ true) (entries l ++ (f ∷ entries r)) =
+        let over : AllByRecursion (λ g. outranks order e g ≡ true) (entries l ++ (f ∷ entries r)) =
         All-append (λ g. outranks order e g ≡ true) (entries l) (f ∷ entries r) (up (entries l) k.over_left) (u, up (entries r) k.over_right) in
         ranked_to order (lesser order w (top l f m n r)) e kb ka (greater order w (top l f m n r)) (record {
           over_left = all_lesser order (λ g. outranks order e g ≡ true) w (top l f m n r) over;

@@ -1,7 +1,7 @@
 -- Lists cut in two ways, tests of their elements, and ordered lists.
 use Rattle.std.proofs.Common.{◌≡◌, ℕ, Bool, true, false, cond, not, ◌&&◌, ◌||◌, ◌⊎◌, List, [], ◌∷◌, ◌++◌, Some, filter, Ordering, Less, sym, refl, ap, ◌∙◌, inl, inr}
 use Rattle.std.specs.Ordering.{is_lt}
-use Rattle.std.specs.List.{AllByRecursion as All}
+use Rattle.std.specs.List.{AllByRecursion}
 use Rattle.std.proofs.ByRecursion.{All-append, All-weaker, all_kept_by, kept_by_passes}
 use Rattle.std.proofs.lemmas.Bool.{and_parts, and_from, or_from, or_left, or_right}
 use Rattle.kinds.specs.Orders.{Lawful}
@@ -13,11 +13,11 @@ use Rattle.rules.specs.Held.{some, every, last_of, ordered, is_word, with, witho
 
 module _ {A : Type 0} where
   -- ---- a test of every element is a fact of each
-  pub all_of_every : (p : A → Bool) (xs : List A) → every p xs ≡ true → All (λ x. p x ≡ true) xs
+  pub all_of_every : (p : A → Bool) (xs : List A) → every p xs ≡ true → AllByRecursion (λ x. p x ≡ true) xs
   all_of_every p [] h = tt
   all_of_every p (x ∷ xs) h = let q = and_parts (p x) (every p xs) h in (q.0, all_of_every p xs q.1)
 
-  pub every_of_all : (p : A → Bool) (xs : List A) → All (λ x. p x ≡ true) xs → every p xs ≡ true
+  pub every_of_all : (p : A → Bool) (xs : List A) → AllByRecursion (λ x. p x ≡ true) xs → every p xs ≡ true
   every_of_all p [] h = refl
   every_of_all p (x ∷ xs) h = and_from (p x) (every p xs) h.0 (every_of_all p xs h.1)
 
@@ -43,27 +43,27 @@ module _ {A : Type 0} where
         ]
       ]
 
-  pub all_left : (P : A → Type 0) (xs ys : List A) → All P (xs ++ ys) → All P xs
+  pub all_left : (P : A → Type 0) (xs ys : List A) → AllByRecursion P (xs ++ ys) → AllByRecursion P xs
   all_left P [] ys h = tt
   all_left P (x ∷ xs) ys h = (h.0, all_left P xs ys h.1)
 
-  pub all_right : (P : A → Type 0) (xs ys : List A) → All P (xs ++ ys) → All P ys
+  pub all_right : (P : A → Type 0) (xs ys : List A) → AllByRecursion P (xs ++ ys) → AllByRecursion P ys
   all_right P [] ys h = h
   all_right P (x ∷ xs) ys h = all_right P xs ys h.1
 
-  pub all_at : (P : A → Type 0) (xs : List A) (y : A) (ys : List A) → All P (xs ++ (y ∷ ys)) → P y
+  pub all_at : (P : A → Type 0) (xs : List A) (y : A) (ys : List A) → AllByRecursion P (xs ++ (y ∷ ys)) → P y
   all_at P xs y ys h = (all_right P xs (y ∷ ys) h).0
 
-  pub all_both : {P Q R : A → Type 0} → ((x : A) → P x → Q x → R x) → (xs : List A) → All P xs → All Q xs → All R xs
+  pub all_both : {P Q R : A → Type 0} → ((x : A) → P x → Q x → R x) → (xs : List A) → AllByRecursion P xs → AllByRecursion Q xs → AllByRecursion R xs
   all_both k [] p q = tt
   all_both k (x ∷ xs) p q = (k x p.0 q.0, all_both k xs p.1 q.1)
 
   -- ---- what a test keeps
-  pub kept_none : (p : A → Bool) (xs : List A) → All (λ x. p x ≡ false) xs → filter p xs ≡ []
+  pub kept_none : (p : A → Bool) (xs : List A) → AllByRecursion (λ x. p x ≡ false) xs → filter p xs ≡ []
   kept_none p [] h = refl
   kept_none p (x ∷ xs) h = rw h.0 (kept_none p xs h.1)
 
-  pub kept_all : (p : A → Bool) (xs : List A) → All (λ x. p x ≡ true) xs → filter p xs ≡ xs
+  pub kept_all : (p : A → Bool) (xs : List A) → AllByRecursion (λ x. p x ≡ true) xs → filter p xs ≡ xs
   kept_all p [] h = refl
   kept_all p (x ∷ xs) h = rw h.0 (ap (λ (z : List A). x ∷ z) (kept_all p xs h.1))
 
@@ -73,7 +73,7 @@ module _ {A : Type 0} where
       elim (q x) as (λ b. filter p (cond b (x ∷ filter q xs) (filter q xs)) ≡ cond (b && p x) (x ∷ filter (λ x. q x && p x) xs) (filter (λ x. q x && p x) xs))
       [ true ↦ ap (λ (z : List A). cond (p x) (x ∷ z) z) (kept_kept p q xs) | false ↦ kept_kept p q xs ]
 
-  pub some_none : (p : A → Bool) (xs : List A) → All (λ x. p x ≡ false) xs → some p xs ≡ false
+  pub some_none : (p : A → Bool) (xs : List A) → AllByRecursion (λ x. p x ≡ false) xs → some p xs ≡ false
   some_none p [] h = refl
   some_none p (x ∷ xs) h = or_from (p x) (some p xs) h.0 (some_none p xs h.1)
 
@@ -89,10 +89,10 @@ module _ {A : Type 0} where
 module _ (order : ℕ → ℕ → Ordering) where
   -- a word before those of all these entries, and after them
   abbrev pub Above : List ℕ → List Entry → Type 0
-  Above w es = All (λ f. word_order order w f.word ≡ Less) es
+  Above w es = AllByRecursion (λ f. word_order order w f.word ≡ Less) es
 
   abbrev pub Below : List ℕ → List Entry → Type 0
-  Below w es = All (λ f. word_order order f.word w ≡ Less) es
+  Below w es = AllByRecursion (λ f. word_order order f.word w ≡ Less) es
 
   -- ---- ordered lists: each word is before all that follow
   abbrev pub Rising : List Entry → Type 0
@@ -111,7 +111,7 @@ module _ (order : ℕ → ℕ → Ordering) where
   rising_before [] y ys h = tt
   rising_before (x ∷ xs) y ys h = (all_at (λ f. word_order order x.word f.word ≡ Less) xs y ys h.0, rising_before xs y ys h.1)
 
-  pub rising_append : (xs ys : List Entry) → Rising xs → Rising ys → All (λ e. Above e.word ys) xs → Rising (xs ++ ys)
+  pub rising_append : (xs ys : List Entry) → Rising xs → Rising ys → AllByRecursion (λ e. Above e.word ys) xs → Rising (xs ++ ys)
   rising_append [] ys p q h = q
   rising_append (x ∷ xs) ys p q h = (All-append (λ f. word_order order x.word f.word ≡ Less) xs ys p.0 h.0, rising_append xs ys p.1 q h.1)
 

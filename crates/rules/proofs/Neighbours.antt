@@ -1,7 +1,7 @@
 -- Where the tree is that of the list, the walks to a word's neighbours end at the nearest entries of the list.
 use Rattle.std.proofs.Common.{◌≡◌, ℕ, Bool, true, false, cond, List, [], ◌∷◌, ◌++◌, Some, None, filter, Option, Ordering, Less, Equal, Greater, sym, refl, ap, ◌∙◌, subst, append_assoc, append-nil}
 use Rattle.std.specs.Ordering.{is_lt, is_gt, is_le, ordering_reverse}
-use Rattle.std.specs.List.{AllByRecursion as All}
+use Rattle.std.specs.List.{AllByRecursion}
 use Rattle.std.proofs.lemmas.List.Elements.{filter-append}
 use Rattle.std.proofs.ByRecursion.{All-append, All-weaker}
 use Rattle.kinds.specs.Orders.{Lawful}
@@ -22,10 +22,10 @@ use Rattle.rules.proofs.Walks.{LowOrSame, HighOrSame, low_of, high_of, low_weake
 module _ (order : ℕ → ℕ → Ordering) (law : Lawful order) where
   -- each of these words is w or before it, or w or after it
   abbrev Upto : List ℕ → List Entry → Type 0
-  Upto w es = All (λ f. is_le (word_order order f.word w) ≡ true) es
+  Upto w es = AllByRecursion (λ f. is_le (word_order order f.word w) ≡ true) es
 
   abbrev From : List ℕ → List Entry → Type 0
-  From w es = All (λ f. is_le (word_order order w f.word) ≡ true) es
+  From w es = AllByRecursion (λ f. is_le (word_order order w f.word) ≡ true) es
 
   upto_of : (b : List Entry) (lo : Option Entry) (w : List ℕ) → Upto w (up_to b lo) → LowOrSame order law lo w
   upto_of b None w h = tt

@@ -1,7 +1,7 @@
 -- A subtree in the tree of an ordered list: what stands before and after it, and what a lookup that comes to it has met.
 use Rattle.std.proofs.Common.{◌≡◌, ℕ, Bool, true, false, cond, not, ◌&&◌, ◌||◌, List, [], ◌∷◌, ◌++◌, Some, None, filter, Option, Ordering, Less, Equal, Greater, sym, refl, ap, ◌∙◌, subst, append_assoc, append-nil}
 use Rattle.std.specs.Ordering.{is_lt, is_le, ordering_reverse}
-use Rattle.std.specs.List.{AllByRecursion as All}
+use Rattle.std.specs.List.{AllByRecursion}
 use Rattle.std.proofs.lemmas.List.Elements.{filter-append}
 use Rattle.std.proofs.ByRecursion.{All-append, All-weaker}
 use Rattle.std.proofs.lemmas.Bool.{and_from, and_left, and_right, or_from, or_left, or_right, not_from_true, not_from_false}
@@ -44,7 +44,7 @@ word_of (Some f) = Some f.word
 module _ (order : ℕ → ℕ → Ordering) where
   abbrev pub Tops : Option Entry → List Entry → Type 0
   Tops None es = Unit {0}
-  Tops (Some f) es = All (λ g. outranks order f g ≡ true) es
+  Tops (Some f) es = AllByRecursion (λ g. outranks order f g ≡ true) es
 
   tops_left : (o : Option Entry) (xs ys : List Entry) → Tops o (xs ++ ys) → Tops o xs
   tops_left None xs ys h = tt
@@ -124,7 +124,7 @@ module _ (order : ℕ → ℕ → Ordering) (law : Lawful order) where
       (and_left (before order f.word g.word) (is_not_after order g.word w) (ap is_lt (after_of_before order law g.word f.word ((words_lawful order law).chains g.word w f.word k h))))
       (and_left (is_not_after order w g.word) (before order g.word f.word) (ap is_le (after_of_before order law g.word w k)))
 
-  pub meets_of : (es : List Entry) (w : List ℕ) (f : Entry) → All (Harmless order w f) es → meets order es w f ≡ true
+  pub meets_of : (es : List Entry) (w : List ℕ) (f : Entry) → AllByRecursion (Harmless order w f) es → meets order es w f ≡ true
   meets_of es w f h = not_from_false (some (λ g. between order f w g && outranks order g f) es) (some_none (λ g. between order f w g && outranks order g f) es h)
 
   pub harmless_apart : (w : List ℕ) (f g : Entry) → between order f w g ≡ false → Harmless order w f g
@@ -150,7 +150,7 @@ module _ (order : ℕ → ℕ → Ordering) (law : Lawful order) where
       let c : es ≡ b ++ (f ∷ (entries s ++ on_from hi a)) = h.cut ∙ simp append_assoc in
       let bf = rising_before order b f (entries s ++ on_from hi a) (subst (Rising order) c h.rising) in
       meets_of es w f
-      (subst (All (Harmless order w f)) (sym c)
+      (subst (AllByRecursion (Harmless order w f)) (sym c)
       (All-append (Harmless order w f) b (f ∷ (entries s ++ on_from hi a))
       (both b bf (all_left (λ f. word_order order f.word w ≡ Less) b (f ∷ []) low)) (
         harmless_itself w f,
@@ -159,7 +159,7 @@ module _ (order : ℕ → ℕ → Ordering) (law : Lawful order) where
             (All-weaker (λ g. word_order order w g.word ≡ Less) (Harmless order w f) (λ g k. harmless_apart w f g (not_between_over f w g fw k)) (on_from hi a) high),
       )))
     where
-      both : (xs : List Entry) → All (λ g. word_order order g.word f.word ≡ Less) xs → Below order w xs → All (Harmless order w f) xs
+      both : (xs : List Entry) → AllByRecursion (λ g. word_order order g.word f.word ≡ Less) xs → Below order w xs → AllByRecursion (Harmless order w f) xs
       both [] p q = tt
       both (g ∷ xs) p q =
           (harmless_apart w f g (not_between_low f w g p.0 q.0), both xs p.1 q.1)
@@ -169,20 +169,20 @@ module _ (order : ℕ → ℕ → Ordering) (law : Lawful order) where
       let c : es ≡ (up_to b lo ++ entries s) ++ (f ∷ a) = h.cut ∙ simp append_assoc in
       let af = (rising_right order (up_to b lo ++ entries s) (f ∷ a) (subst (Rising order) c h.rising)).0 in
       meets_of es w f
-      (subst (All (Harmless order w f)) (sym h.cut)
+      (subst (AllByRecursion (Harmless order w f)) (sym h.cut)
       (All-append (Harmless order w f) (up_to b lo) (entries s ++ (f ∷ a))
       (All-weaker (λ g. word_order order g.word w ≡ Less) (Harmless order w f) (λ g k. harmless_apart w f g (not_between_under f w g high.0 k)) (up_to b lo) low)
       (All-append (Harmless order w f) (entries s) (f ∷ a)
       (All-weaker (λ g. outranks order f g ≡ true) (Harmless order w f) (λ g k. harmless_under w f g k) (entries s) h.high)
       (harmless_itself w f, both a af high.1))))
     where
-      both : (xs : List Entry) → All (λ g. word_order order f.word g.word ≡ Less) xs → Above order w xs → All (Harmless order w f) xs
+      both : (xs : List Entry) → AllByRecursion (λ g. word_order order f.word g.word ≡ Less) xs → Above order w xs → AllByRecursion (Harmless order w f) xs
       both [] p q = tt
       both (g ∷ xs) p q =
           (harmless_apart w f g (not_between_high f w g p.0 q.0), both xs p.1 q.1)
 
   -- the top of s outranks, and is not outranked by, what s holds
-  pub not_over_top : (l : Tree) (e : Entry) (m n : ℕ) (r : Tree) → ranked order (top l e m n r) ≡ true → All (λ f. outranks order f e ≡ false) (entries (top l e m n r))
+  pub not_over_top : (l : Tree) (e : Entry) (m n : ℕ) (r : Tree) → ranked order (top l e m n r) ≡ true → AllByRecursion (λ f. outranks order f e ≡ false) (entries (top l e m n r))
   not_over_top l e m n r h =
       let k = ranked_of order l e m n r h in
       All-append (λ f. outranks order f e ≡ false) (entries l) (e ∷ entries r)
@@ -210,7 +210,7 @@ module _ (order : ℕ → ℕ → Ordering) (law : Lawful order) where
       → Hangs order es b lo (top l e m n r) hi a → Below order w (up_to b lo) → Above order w (on_from hi a) → nearest_before order w (met_before order es w e) ≡ lo
   near_before es b lo l e m n r hi a w h low high =
       let s = top l e m n r in
-      let no : All (λ f. near_low es w e f ≡ false) (entries s ++ on_from hi a) =
+      let no : AllByRecursion (λ f. near_low es w e f ≡ false) (entries s ++ on_from hi a) =
       All-append (λ f. near_low es w e f ≡ false) (entries s) (on_from hi a)
       (All-weaker (λ f. outranks order f e ≡ false) (λ f. near_low es w e f ≡ false)
       (λ f o. and_right (meets order es w f) (outranks order f e && before order f.word w) (and_left (outranks order f e) (before order f.word w) o)) (entries s) (not_over_top l e m n r h.rank))
@@ -236,10 +236,10 @@ module _ (order : ℕ → ℕ → Ordering) (law : Lawful order) where
       → Hangs order es b lo (top l e m n r) hi a → Below order w (up_to b lo) → Above order w (on_from hi a) → nearest_after order w (met_before order es w e) ≡ hi
   near_after es b lo l e m n r hi a w h low high =
       let s = top l e m n r in
-      let no_low : All (λ f. near_high es w e f ≡ false) (up_to b lo) =
+      let no_low : AllByRecursion (λ f. near_high es w e f ≡ false) (up_to b lo) =
       All-weaker (λ f. word_order order f.word w ≡ Less) (λ f. near_high es w e f ≡ false)
       (λ f o. and_right (meets order es w f) (outranks order f e && before order w f.word) (and_right (outranks order f e) (before order w f.word) (ap is_lt (after_of_before order law f.word w o)))) (up_to b lo) low in
-      let no_mid : All (λ f. near_high es w e f ≡ false) (entries s) =
+      let no_mid : AllByRecursion (λ f. near_high es w e f ≡ false) (entries s) =
       All-weaker (λ f. outranks order f e ≡ false) (λ f. near_high es w e f ≡ false)
       (λ f o. and_right (meets order es w f) (outranks order f e && before order w f.word) (and_left (outranks order f e) (before order w f.word) o)) (entries s) (not_over_top l e m n r h.rank) in
       let one = kept_kept (λ f. before order w f.word) (λ f. outranks order f e) (met order es w) in
@@ -326,7 +326,7 @@ module _ (order : ℕ → ℕ → Ordering) (law : Lawful order) where
     top_met =
         let k = ranked_of order l e m n r h.rank in
         meets_of es w e
-        (subst (All (Harmless order w e)) (sym (cut_left order es b lo l e m n r hi a h))
+        (subst (AllByRecursion (Harmless order w e)) (sym (cut_left order es b lo l e m n r hi a h))
         (All-append (Harmless order w e) (up_to b lo) (entries l ++ (e ∷ (entries r ++ on_from hi a)))
         (all_both {P = λ g. word_order order g.word e.word ≡ Less} {Q = λ g. word_order order g.word w ≡ Less} {R = Harmless order w e} (λ g p q. harmless_apart w e g (not_between_low e w g p q)) (up_to b lo)
         (all_left (λ f. word_order order f.word e.word ≡ Less) (up_to b lo) (entries l) (all_before es b lo l e m n r hi a h)) low)

@@ -1,6 +1,6 @@
 -- Each ordered list has exactly one tree.
 use Rattle.std.proofs.Common.{◌≡◌, ℕ, Bool, true, false, cond, ◌&&◌, List, [], ◌∷◌, ◌++◌, Some, None, Option, Ordering, Less, sym, refl, ap, ◌∙◌, subst, inl, inr, arith}
-use Rattle.std.specs.List.{AllByRecursion as All}
+use Rattle.std.specs.List.{AllByRecursion}
 use Rattle.std.proofs.ByRecursion.{All-append, All-weaker}
 use Rattle.std.proofs.lemmas.Bool.{and_parts, and_from}
 use Rattle.kinds.specs.Orders.{Lawful}
@@ -19,8 +19,8 @@ no_nothing (x ∷ xs) y ys h = let z : ◌≡◌ {A = ℕ} 0 1 = cc in absurd (l
 module _ (order : ℕ → ℕ → Ordering) where
   -- what `ranked` says of a top
   pub record RankedTop (l : Tree) (e : Entry) (r : Tree) : Type 0 where
-    pub over_left : All (λ f. outranks order e f ≡ true) (entries l)
-    pub over_right : All (λ f. outranks order e f ≡ true) (entries r)
+    pub over_left : AllByRecursion (λ f. outranks order e f ≡ true) (entries l)
+    pub over_right : AllByRecursion (λ f. outranks order e f ≡ true) (entries r)
     pub left : ranked order l ≡ true
     pub right : ranked order r ≡ true
 
@@ -53,8 +53,8 @@ module _ (order : ℕ → ℕ → Ordering) (law : Lawful order) where
       → Within (entries l) e (entries r) (entries l') e' (entries r') → A
   apart l e r l' e' r' h h' w =
       absurd (outranks_once order law e' e
-      (all_at (λ f. outranks order e' f ≡ true) (entries l) e w.mid (subst (All (λ f. outranks order e' f ≡ true)) w.front h'.over_left))
-      (all_at (λ f. outranks order e f ≡ true) w.mid e' (entries r') (subst (All (λ f. outranks order e f ≡ true)) w.back h.over_right)))
+      (all_at (λ f. outranks order e' f ≡ true) (entries l) e w.mid (subst (AllByRecursion (λ f. outranks order e' f ≡ true)) w.front h'.over_left))
+      (all_at (λ f. outranks order e f ≡ true) w.mid e' (entries r') (subst (AllByRecursion (λ f. outranks order e f ≡ true)) w.back h.over_right)))
 
   pub same_tree : (lo hi : Option (List ℕ)) (t t' : Tree) → entries t ≡ entries t' → ranked order t ≡ true → ranked order t' ≡ true → Exact lo hi t → Exact lo hi t' → t ≡ t'
   same_tree lo hi nothing nothing e h h' x x' = refl
@@ -103,20 +103,20 @@ module _ (order : ℕ → ℕ → Ordering) (law : Lawful order) where
       elim (outranks order f e) as (λ b. entries (cond b (top (put_first order e l) f m n r) (top nothing e 0 0 (top l f m n r))) ≡ e ∷ (entries l ++ (f ∷ entries r)))
       [ true ↦ ap (λ (z : List Entry). z ++ (f ∷ entries r)) (entries_first e l) | false ↦ refl ]
 
-  ranked_first : (e : Entry) (t : Tree) → All (λ f. f.word ≡ e.word → ⊥) (entries t) → ranked order t ≡ true → ranked order (put_first order e t) ≡ true
+  ranked_first : (e : Entry) (t : Tree) → AllByRecursion (λ f. f.word ≡ e.word → ⊥) (entries t) → ranked order t ≡ true → ranked order (put_first order e t) ≡ true
   ranked_first e nothing a h = refl
   ranked_first e (top l f m n r) a h =
       let k = ranked_of order l f m n r h in
       by (outranks order f e) (λ b. ranked order (cond b (top (put_first order e l) f m n r) (top nothing e 0 0 (top l f m n r))) ≡ true)
       (λ o. ranked_to order (put_first order e l) f m n r (record {
-        over_left = subst (All (λ g. outranks order f g ≡ true)) (sym (entries_first e l)) (o, k.over_left);
+        over_left = subst (AllByRecursion (λ g. outranks order f g ≡ true)) (sym (entries_first e l)) (o, k.over_left);
         over_right = k.over_right;
         left = ranked_first e l (all_left (λ f. f.word ≡ e.word → ⊥) (entries l) (f ∷ entries r) a) k.left;
         right = k.right;
       }))
       (λ o.
       let u : outranks order e f ≡ true = outranks_other order law f e (all_at (λ f. f.word ≡ e.word → ⊥) (entries l) f (entries r) a) o in
-      let up : (xs : List Entry) → All (λ g. outranks order f g ≡ true) xs → All (λ g. outranks order e g ≡ true) xs =
+      let up : (xs : List Entry) → AllByRecursion (λ g. outranks order f g ≡ true) xs → AllByRecursion (λ g. outranks order e g ≡ true) xs =
       All-weaker (λ g. outranks order f g ≡ true) (λ g. outranks order e g ≡ true) (λ g v. outranks_chains order law e f g u v) in
       ranked_to order nothing e 0 0 (top l f m n r) (record {
         over_left = tt;
@@ -133,7 +133,7 @@ module _ (order : ℕ → ℕ → Ordering) (law : Lawful order) where
   ranked_grown [] h = refl
   ranked_grown (e ∷ es) h =
       ranked_first e (grown order es)
-      (subst (All (λ f. f.word ≡ e.word → ⊥)) (sym (entries_grown es))
+      (subst (AllByRecursion (λ f. f.word ≡ e.word → ⊥)) (sym (entries_grown es))
       (All-weaker (λ f. word_order order e.word f.word ≡ Less) (λ f. f.word ≡ e.word → ⊥)
       (λ f l q. word_not_itself order law e.word (subst (λ (z : List ℕ). word_order order e.word z ≡ Less) q l)) es h.0))
       (ranked_grown es h.1)

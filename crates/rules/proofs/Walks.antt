@@ -1,7 +1,7 @@
 -- The lookup by steps does what the list says.
 use Rattle.std.proofs.Common.{◌≡◌, ℕ, ◌+◌, ◌-◌, ◌<◌, ◌≤◌, min, max, Bool, true, false, cond, ◌&&◌, eqb, ltb, ◌⊎◌, List, [], ◌∷◌, ◌++◌, length, drop, Some, None, filter, Option, Ordering, Less, Equal, Greater, sym, refl, ap, ◌∙◌, subst, inl, inr, append-nil, arith}
 use Rattle.std.specs.Ordering.{is_le, is_eq, ordering_reverse}
-use Rattle.std.specs.List.{AllByRecursion as All}
+use Rattle.std.specs.List.{AllByRecursion}
 use Rattle.std.specs.List.Sorted.{IsPermutation}
 use Rattle.std.proofs.lemmas.List.Elements.{filter-append}
 use Rattle.std.proofs.ByRecursion.{All-weaker}
@@ -40,11 +40,11 @@ pub record LooksUp (order : ℕ → ℕ → Ordering) (es : List Entry) (w : Lis
 
 -- ---- the way down holds what is met
 module _ (order : ℕ → ℕ → Ordering) where
-  pub all_way : (P : Entry → Type 0) (w : List ℕ) (t : Tree) → All P (entries t) → All P (way_to order w t)
+  pub all_way : (P : Entry → Type 0) (w : List ℕ) (t : Tree) → AllByRecursion P (entries t) → AllByRecursion P (way_to order w t)
   all_way P w nothing h = tt
   all_way P w (top l e m n r) h = (
     all_at P (entries l) e (entries r) h,
-    elim (word_order order w e.word) as (λ o. All P (turned o (way_to order w l) [] (way_to order w r))) [
+    elim (word_order order w e.word) as (λ o. AllByRecursion P (turned o (way_to order w l) [] (way_to order w r))) [
       | Less ↦ all_way P w l (all_left P (entries l) (e ∷ entries r) h)
       | Equal ↦ tt
       | Greater ↦ all_way P w r (all_right P (entries l) (e ∷ entries r) h).1
@@ -55,7 +55,7 @@ module _ (order : ℕ → ℕ → Ordering) where
   way_falls w nothing h = tt
   way_falls w (top l e m n r) h =
       let k = ranked_of order l e m n r h in
-      elim (word_order order w e.word) as (λ o. All (λ f. outranks order e f ≡ true) (turned o (way_to order w l) [] (way_to order w r)) × Falling order (turned o (way_to order w l) [] (way_to order w r))) [
+      elim (word_order order w e.word) as (λ o. AllByRecursion (λ f. outranks order e f ≡ true) (turned o (way_to order w l) [] (way_to order w r)) × Falling order (turned o (way_to order w l) [] (way_to order w r))) [
         | Less ↦ (all_way (λ f. outranks order e f ≡ true) w l k.over_left, way_falls w l k.left)
         | Equal ↦ (tt, tt)
         | Greater ↦ (all_way (λ f. outranks order e f ≡ true) w r k.over_right, way_falls w r k.right)
@@ -342,11 +342,11 @@ module _ (order : ℕ → ℕ → Ordering) (law : Lawful order) where
       (word_order order w e.word) refl
 
   -- ---- what is found
-  not_word_low : (w v : List ℕ) (es : List Entry) → is_le (word_order order w v) ≡ true → All (λ f. word_order order v f.word ≡ Less) es → All (λ f. is_word order w f ≡ false) es
+  not_word_low : (w v : List ℕ) (es : List Entry) → is_le (word_order order w v) ≡ true → AllByRecursion (λ f. word_order order v f.word ≡ Less) es → AllByRecursion (λ f. is_word order w f ≡ false) es
   not_word_low w v es h a =
       All-weaker (λ f. word_order order v f.word ≡ Less) (λ f. is_word order w f ≡ false) (λ f k. ap is_eq (le_then_less order law w v f.word h k)) es a
 
-  not_word_high : (w v : List ℕ) (es : List Entry) → is_le (word_order order v w) ≡ true → All (λ f. word_order order f.word v ≡ Less) es → All (λ f. is_word order w f ≡ false) es
+  not_word_high : (w v : List ℕ) (es : List Entry) → is_le (word_order order v w) ≡ true → AllByRecursion (λ f. word_order order f.word v ≡ Less) es → AllByRecursion (λ f. is_word order w f ≡ false) es
   not_word_high w v es h a =
       All-weaker (λ f. word_order order f.word v ≡ Less) (λ f. is_word order w f ≡ false)
       (λ f k. ap is_eq ((words_lawful order law).swaps f.word w ∙ ap ordering_reverse (less_then_le order law f.word v w k h))) es a

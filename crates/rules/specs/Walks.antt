@@ -2,7 +2,7 @@
 use Rattle.std.specs.Prelude.{◌≡◌, ℕ, ◌+◌, ◌≤◌, max, Bool, true, cond, List, [], ◌∷◌, ◌++◌, length, Some, None, Option, nat_lt}
 use Rattle.std.specs.declared.cmp.Ordering.TheVariants.{Less, Equal, Greater}
 use Rattle.std.specs.declared.cmp.Ordering.{Ordering}
-use Rattle.std.specs.List.{AllByRecursion as All}
+use Rattle.std.specs.List.{AllByRecursion}
 use Rattle.std.specs.List.Sorted.{IsPermutation}
 use Rattle.words.specs.declared.comparison.Comparison.{Comparison}
 use Rattle.words.specs.Comparisons.{compared_from}
@@ -53,7 +53,7 @@ module _ (order : ℕ → ℕ → Ordering) where
   -- each entry outranks all that come later
   abbrev pub Falling : List Entry → Type 0
   Falling [] = Unit {0}
-  Falling (e ∷ es) = All (λ f. outranks order e f ≡ true) es × Falling es
+  Falling (e ∷ es) = AllByRecursion (λ f. outranks order e f ≡ true) es × Falling es
 
   pub record LawOfLookup (es : List Entry) (w : List ℕ) (x : Walked) : Type 0 where
     -- it finds the entry that the list has for the word

@@ -1,5 +1,5 @@
 use Rattle.std.proofs.Common.{◌≡◌, ℕ, ◌<◌, List, [], ◌∷◌, ◌++◌, length, vec_items, sym, refl, ◌∙◌, subst, arith}
-use Rattle.std.specs.List.{AllByRecursion as All}
+use Rattle.std.specs.List.{AllByRecursion}
 use Rattle.std.proofs.ByRecursion.{All-push}
 use Rattle.std.proofs.lemmas.Slice.{pushed}
 use Rattle.std.proofs.lemmas.Bool.{eqb-false}
@@ -10,4 +10,4 @@ loop-word-preserved-in-Continue-1 c =
     let word = c.in-Some.word in
     let some : (length word.now ≡ 0 → ⊥) = eqb-false (length word.now) 0 (sym c.is_empty.ensures ∙ c.if-not-is_empty.true) in
     let p : vec_items c.push.new.self ≡ vec_items c.loop-word.words ++ (word ∷ []) = pushed (word ∷ []) refl c.in_ok-push.was c.push.ensures.items in
-    subst (All (λ w. 0 < length w.now)) (sym p) (All-push (λ w. 0 < length w.now) (vec_items c.loop-word.words) word c.loop-word.invariant (omega arith))
+    subst (AllByRecursion (λ w. 0 < length w.now)) (sym p) (All-push (λ w. 0 < length w.now) (vec_items c.loop-word.words) word c.loop-word.invariant (omega arith))
