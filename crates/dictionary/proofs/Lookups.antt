@@ -1,21 +1,20 @@
 -- What a lookup answers is what the plain list says, and its slip is the bill of the rules.
-use Rattle.std.proofs.Common.{◌≡◌, ℕ, ◌+◌, ◌≤◌, List, length, Some, None, Ok, Err, Option, Result, Ordering, sym, refl, ap, ◌∙◌, subst, arith}
+use Rattle.std.proofs.Common.{◌≡◌, ℕ, List, length, Some, None, Ok, Err, Option, Ordering, sym, ap, ◌∙◌, subst, arith}
 use Rattle.std.specs.Option.{option_map}
 use Rattle.std.proofs.lemmas.List.Sorted.{length_permutation}
 use Rattle.kinds.specs.Orders.{Lawful}
 use Rattle.limits.specs.declared.refusal.Refusal.{Refusal}
 use Rattle.limits.specs.Refusals.{Told, told, word_refusal}
 use Rattle.rules.specs.Entries.{Entry}
-use Rattle.rules.specs.Held.{entry_of, longest_shared}
+use Rattle.rules.specs.Held.{entry_of}
 use Rattle.rules.specs.Lookups.{met, pairs_of}
 use Rattle.rules.specs.Walks.{Walked, lookup, LawOfLookup}
 use Rattle.rules.proofs.Walks.{lookup_law}
-use Rattle.lent.specs.declared.entry.Held.{Held}
 use Rattle.lent.specs.declared.lookup.Looked.{Looked}
 use Rattle.lent.specs.Entries.{LookedOf, held_of}
 use Rattle.dictionary.specs.declared.dictionary.Dictionary.{Dictionary}
 use Rattle.dictionary.specs.declared.tally.Slip.{Slip}
-use Rattle.dictionary.specs.Dictionaries.{Answer, Kept, LookedUp, billed, held, limits, looked_up, tree}
+use Rattle.dictionary.specs.Dictionaries.{Answer, Kept, LookedUp, billed, held, limits, tree}
 
 -- the slip that comes with an answer
 abbrev slip_of : Answer Refusal → Slip

@@ -1,8 +1,8 @@
 -- Dictionaries that hold the same entries keep the same tree.
-use Rattle.std.proofs.Common.{◌≡◌, ℕ, List, Ordering, sym, ap, subst}
+use Rattle.std.proofs.Common.{ℕ, List, Ordering, ap, subst}
 use Rattle.kinds.specs.Orders.{Lawful}
 use Rattle.rules.specs.Entries.{Entry}
-use Rattle.rules.specs.Trees.{Tree, TreeOf, entries}
+use Rattle.rules.specs.Trees.{TreeOf, entries}
 use Rattle.rules.proofs.Trees.{one_tree}
 use Rattle.dictionary.specs.Dictionaries.{SameTree, held, tree}
 

@@ -12,7 +12,7 @@ use Rattle.rules.specs.Entries.{Entry}
 use Rattle.rules.specs.Held.{entry_of, longest_shared}
 use Rattle.rules.specs.Lookups.{met, pairs_of}
 use Rattle.rules.specs.Trees.{Tree}
-use Rattle.rules.specs.Walks.{Walked, lookup, LawOfLookup}
+use Rattle.rules.specs.Walks.{lookup, LawOfLookup}
 use Rattle.slots.specs.declared.slot.Slot.{Slot}
 use Rattle.lent.specs.declared.entry.Held.{Held}
 use Rattle.lent.specs.Entries.{held_of}

@@ -1,8 +1,8 @@
 -- The numbers below a count, in so many bytes, are a faithful codec, where the bytes suffice for the count.
-use Rattle.std.specs.Prelude.{◌≡◌, ℕ, ◌^◌, ◌<◌, ◌≤◌, Bool, true, false, cond, ltb, List, length, Some, None, Option, ◌==◌, ◌≢◌, nat_lt, refl}
+use Rattle.std.specs.Prelude.{◌≡◌, ℕ, ◌^◌, ◌≤◌, Bool, true, false, cond, ltb, List, length, Some, None, Option, ◌==◌, ◌≢◌, nat_lt, refl}
 use Rattle.std.proofs.Common.{sym, ap, ◌∙◌, arith}
 use Rattle.std.proofs.lemmas.Bool.{ltb-true, eqb-true, eq-eqb, cond-true}
-use Rattle.kinds.specs.Bytes.{Bytes, high_first, number_of}
+use Rattle.kinds.specs.Bytes.{high_first, number_of}
 use Rattle.kinds.specs.Codecs.{Codec, Faithful, RefusesExactly, numbers_below, below}
 use Rattle.kinds.specs.Numbers.{length_high_first, bytes_high_first, number_high_first, high_first_number}
 

@@ -1,7 +1,6 @@
 -- A number in bytes, high byte first, and back: for every width.
 use Rattle.std.specs.Prelude.{◌≡◌, ℕ, zero, suc, ◌+◌, ◌*◌, ◌/◌, ◌%◌, ◌^◌, ◌<◌, ◌≤◌, List, [], ◌∷◌, length, take, drop, slice_index, refl}
-use Rattle.std.proofs.Common.{sym, ap, ◌∙◌, add-mul, mul_assoc, mul_comm, mod-eq_of_lt, pow-suc, mul-one, arith}
-use Rattle.std.proofs.Math.Nat.{one-le-pow, mod-one}
+use Rattle.std.proofs.Common.{sym, ap, ◌∙◌, add-mul, mul_assoc, mul_comm, mod-eq_of_lt, pow-suc, arith}
 use Rattle.std.proofs.Math.Arith.{digits_div, mod-mul}
 use Rattle.std.specs.Int.Digits.{number_from_digits_after}
 use Rattle.std.proofs.lemmas.Int.Digits.{number_lt}

@@ -1,15 +1,15 @@
 -- An entry written to the first free place and put into the tree: the memory is filled by one more, and its tree is the tree with that entry.
-use Rattle.std.proofs.Common.{◌≡◌, ℕ, suc, ◌+◌, ◌*◌, ◌<◌, ◌≤◌, ◌⊎◌, List, map, length, take, drop, set, Ordering, sym, refl, ap, ◌∙◌, subst, inl, inr, arith, length-set, get_or-set_other, get_or-set_same}
+use Rattle.std.proofs.Common.{◌≡◌, ℕ, suc, ◌+◌, ◌*◌, ◌<◌, ◌≤◌, List, map, length, take, drop, set, Ordering, sym, refl, ap, ◌∙◌, subst, inl, inr, arith, length-set, get_or-set_other, get_or-set_same}
 use Rattle.limits.specs.declared.bounds.Limits.{Limits}
 use Rattle.rules.specs.Entries.{Entry}
-use Rattle.rules.specs.Trees.{Tree, nothing, top}
+use Rattle.rules.specs.Trees.{Tree, top}
 use Rattle.rules.specs.Inserts.{inserted_by}
 use Rattle.slots.specs.declared.slot.Slot.{Slot}
 use Rattle.slots.specs.Slots.{blank, unlinked}
 use Rattle.lent.specs.Tables.{slot_at, Rooted, leaf, node, size, In, Stands, rooted, plain, entry_at, overwritten}
 use Rattle.lent.specs.declared.memory.Memory.{Memory}
 use Rattle.lent.specs.Stores.{Filled, FilledBy, HasRoom}
-use Rattle.lent.specs.Unzips.{FreeOf, Grown, Same, inserted_at}
+use Rattle.lent.specs.Unzips.{FreeOf, Grown, inserted_at}
 use Rattle.lent.proofs.Tables.{in_strip, read_whole, sound_of}
 use Rattle.lent.proofs.Strips.{length_overwritten, read_before, read_here}
 use Rattle.lent.proofs.Places.{in_inserted, apart_inserted, size_inserted, plain_inserted}

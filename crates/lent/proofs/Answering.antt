@@ -1,8 +1,8 @@
 -- What a call answers and leaves is what its rule says of the plain list with the limits.
-use Rattle.std.proofs.Common.{◌≡◌, ℕ, suc, ◌+◌, ◌<◌, ◌≤◌, Bool, true, false, cond, ltb, List, [], ◌∷◌, ◌++◌, length, is_some, Some, None, Ok, Err, filter, Option, Result, Ordering, sym, refl, ap, ◌∙◌, subst, arith}
+use Rattle.std.proofs.Common.{◌≡◌, ℕ, ◌<◌, ◌≤◌, Bool, true, false, cond, ltb, List, [], ◌∷◌, length, is_some, Some, None, Ok, Err, filter, Option, Result, Ordering, sym, refl, ap, ◌∙◌, subst, arith}
 use Rattle.std.specs.Ordering.{is_eq}
 use Rattle.std.proofs.lemmas.List.{length-append}
-use Rattle.std.proofs.lemmas.Bool.{cond-true, cond-false, lt-ltb, le-ltb, true≢false}
+use Rattle.std.proofs.lemmas.Bool.{lt-ltb, le-ltb, true≢false}
 use Rattle.kinds.specs.Orders.{Lawful}
 use Rattle.limits.specs.declared.bounds.Limits.{Limits}
 use Rattle.limits.specs.declared.refusal.Refusal.{Refusal}
@@ -13,7 +13,7 @@ use Rattle.words.proofs.Orders.{words_lawful}
 use Rattle.rules.specs.Calls.{Outcome, outcome, or_else, add_refusal, added}
 use Rattle.rules.specs.Entries.{Entry}
 use Rattle.rules.specs.Held.{ordered, entry_of, first_of, is_word, with}
-use Rattle.rules.specs.Trees.{Tree, entries, TreeOf}
+use Rattle.rules.specs.Trees.{entries, TreeOf}
 use Rattle.rules.specs.Walks.{lookup}
 use Rattle.rules.proofs.Inserts.{Lacks}
 use Rattle.rules.proofs.Lists.{ordered_with}

@@ -1,5 +1,5 @@
 -- How far one comparison gets: it shares no more than the word has, and looks at no more pairs.
-use Rattle.std.proofs.Common.{◌≡◌, ℕ, suc, ◌+◌, ◌-◌, ◌≤◌, Bool, true, false, cond, eqb, ltb, List, [], ◌∷◌, length, drop, Ordering, Less, Greater, refl, suc-le-suc, zero-le, arith, length-drop}
+use Rattle.std.proofs.Common.{◌≡◌, ℕ, suc, ◌≤◌, Bool, true, false, cond, eqb, ltb, List, [], ◌∷◌, length, drop, Ordering, Less, Greater, refl, suc-le-suc, zero-le, arith, length-drop}
 use Rattle.std.proofs.lemmas.Bool.{ltb-true}
 use Rattle.words.specs.declared.comparison.Comparison.{Comparison}
 use Rattle.words.specs.Comparisons.{start, compared_from}

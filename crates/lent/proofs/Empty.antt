@@ -1,10 +1,9 @@
 -- Memory just opened: no entry is held, whatever the memory held.
-use Rattle.std.proofs.Common.{◌≡◌, ℕ, ◌≤◌, true, List, [], length, Ordering, sym, refl, ap, ◌∙◌, subst, arith}
+use Rattle.std.proofs.Common.{◌≡◌, ℕ, List, [], length, Ordering, sym, refl, ap, subst, arith}
 use Rattle.limits.specs.declared.bounds.Limits.{Limits}
 use Rattle.limits.specs.Capacity.{limits_for}
 use Rattle.slots.specs.declared.slot.Slot.{Slot}
-use Rattle.lent.specs.Tables.{Rooted, leaf, size, In, Sound, plain, rooted}
-use Rattle.rules.specs.Entries.{Entry}
+use Rattle.lent.specs.Tables.{leaf, size, In, Sound, plain, rooted}
 use Rattle.rules.specs.Held.{ordered}
 use Rattle.rules.specs.Trees.{Tree, nothing, entries, TreeOf}
 use Rattle.lent.specs.declared.memory.Memory.{Memory}

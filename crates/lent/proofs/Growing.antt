@@ -1,5 +1,5 @@
 -- The walk to where a place goes into the tree: what is made of the tree below a hook is made of the whole.
-use Rattle.std.proofs.Common.{◌≡◌, ℕ, suc, ◌+◌, ◌*◌, ◌<◌, ◌≤◌, max, Bool, true, false, cond, ltb, ◌⊎◌, List, length, Some, None, Option, Ordering, sym, refl, ap, ◌∙◌, subst, inl, inr, zero-le, arith}
+use Rattle.std.proofs.Common.{◌≡◌, ℕ, ◌+◌, ◌*◌, ◌<◌, ◌≤◌, max, true, false, cond, ltb, ◌⊎◌, List, length, Some, None, Option, Ordering, sym, refl, ap, ◌∙◌, subst, inl, inr, zero-le, arith}
 use Rattle.std.specs.Ordering.{is_gt}
 use Rattle.std.proofs.lemmas.Bool.{cond-true, cond-false}
 use Rattle.words.specs.declared.comparison.Comparison.{Comparison}
@@ -13,13 +13,13 @@ use Rattle.slots.specs.declared.compare.Shares.{Shares}
 use Rattle.lent.specs.declared.writes.Hook.{Hook}
 use Rattle.lent.specs.Tables.{slot_at, Rooted, leaf, node, size, In, Apart, Stands, rooted}
 use Rattle.lent.specs.Lookups.{compared_at}
-use Rattle.lent.specs.Unzips.{other, child_on, length_on, hung, noted, Same, On, Split, FreeOf, Unzipped, Grown, HookIn, seated, seated_top, lesser_at, greater_at, inserted_at}
+use Rattle.lent.specs.Unzips.{child_on, hung, noted, Same, On, Split, FreeOf, Unzipped, Grown, HookIn, seated, seated_top, lesser_at, greater_at, inserted_at}
 use Rattle.lent.proofs.Tables.{in_strip, read_whole}
 use Rattle.lent.proofs.Bounds.{compared_within}
 use Rattle.lent.proofs.Frames.{No, left_not_right, hung_child, hung_same, noted_length, noted_same, then, wider, room, moved}
-use Rattle.lent.proofs.Sides.{mk, opens, Parts, parts, in_top, in_back, in_ahead, size_mk, not_other, regrown, span, span_falls}
+use Rattle.lent.proofs.Sides.{mk, opens, parts, in_top, in_back, in_ahead, not_other, regrown, span, span_falls}
 use Rattle.lent.proofs.Parting.{Short}
-use Rattle.lent.proofs.Places.{in_lesser, in_greater, in_inserted}
+use Rattle.lent.proofs.Places.{in_lesser, in_greater}
 
 -- as Grown, where the new tree hangs on a hook
 pub record Hooked (capacity : ℕ) (T : List Slot) (x : ℕ) (a : Hook) (t b : Rooted) (T' : List Slot) : Type 0 where

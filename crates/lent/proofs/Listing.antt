@@ -1,5 +1,5 @@
 -- An entry of the table with its lengths is that entry of the held list with the lengths that the list says, and the nearest one is the list's.
-use Rattle.std.proofs.Common.{◌≡◌, ℕ, List, length, Some, None, Option, Ordering, sym, refl, ap, ◌∙◌, inl, inr}
+use Rattle.std.proofs.Common.{◌≡◌, ℕ, List, Some, None, Option, Ordering, sym, refl, ap, ◌∙◌, inl, inr}
 use Rattle.std.specs.Option.{option_map}
 use Rattle.kinds.specs.Orders.{Lawful}
 use Rattle.rules.specs.Entries.{Entry}
@@ -10,7 +10,7 @@ use Rattle.slots.specs.declared.slot.Side.{Side}
 use Rattle.slots.specs.declared.slot.Side.TheVariants.{Left, Right}
 use Rattle.slots.specs.declared.slot.Slot.{Slot}
 use Rattle.lent.specs.declared.memory.Memory.{Memory}
-use Rattle.lent.specs.Entries.{Listed, listed_at, listed_in}
+use Rattle.lent.specs.Entries.{listed_at, listed_in}
 use Rattle.lent.specs.Keeping.{Kept}
 use Rattle.lent.specs.Neighbours.{nearest, nearest_by}
 use Rattle.lent.specs.Stores.{entry_of, held, places, tree}

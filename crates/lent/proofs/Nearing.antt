@@ -6,14 +6,14 @@ use Rattle.std.proofs.lemmas.Bool.{cond-true, cond-false}
 use Rattle.words.specs.declared.comparison.Comparison.{Comparison}
 use Rattle.rules.specs.Entries.{Entry}
 use Rattle.rules.specs.Neighbours.{preceding_by, following_by}
-use Rattle.rules.specs.Trees.{Tree, top}
+use Rattle.rules.specs.Trees.{top}
 use Rattle.slots.specs.declared.compare.Shares.{Shares}
 use Rattle.slots.specs.declared.slot.Slot.{Slot}
 use Rattle.slots.specs.declared.slot.Side.{Side}
 use Rattle.slots.specs.declared.slot.Side.TheVariants.{Left, Right}
 use Rattle.lent.specs.Lookups.{compared_at}
 use Rattle.lent.specs.Neighbours.{nearest_by, is_right_turn}
-use Rattle.lent.specs.Tables.{Rooted, leaf, size, In, Stands, slot_at, rooted, plain}
+use Rattle.lent.specs.Tables.{Rooted, size, In, Stands, slot_at, rooted, plain}
 use Rattle.lent.specs.Unzips.{one_on_side}
 use Rattle.lent.proofs.Tables.{Turn, turn, none}
 

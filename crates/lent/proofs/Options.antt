@@ -1,5 +1,5 @@
 -- A function on what an option holds, and what an answer holds.
-use Rattle.std.proofs.Common.{◌≡◌, is_some, Some, None, Ok, Err, Option, Result, refl, subst}
+use Rattle.std.proofs.Common.{◌≡◌, is_some, Some, None, Ok, Option, Result, refl, subst}
 use Rattle.std.specs.Option.{option_map}
 
 pub some_mapped : {A B : Type 0} (f : A → B) (o : Option A) → is_some (option_map f o) ≡ is_some o

@@ -1,5 +1,5 @@
 -- The loop that parts a tree in the table: the top of what is left goes on one of two hooks, and the walk goes on below it.
-use Rattle.std.proofs.Common.{◌≡◌, ℕ, suc, ◌+◌, ◌*◌, ◌<◌, ◌≤◌, max, Bool, true, false, cond, ltb, ◌⊎◌, List, map, length, take, drop, Ordering, sym, refl, ap, ◌∙◌, subst, inl, inr, arith}
+use Rattle.std.proofs.Common.{◌≡◌, ℕ, ◌+◌, ◌*◌, ◌<◌, ◌≤◌, max, true, false, cond, ltb, ◌⊎◌, List, map, length, take, drop, Ordering, sym, refl, ap, ◌∙◌, subst, inl, inr, arith}
 use Rattle.std.specs.Ordering.{is_gt}
 use Rattle.std.proofs.lemmas.Bool.{cond-true, cond-false}
 use Rattle.words.specs.declared.comparison.Comparison.{Comparison}
@@ -13,7 +13,7 @@ use Rattle.slots.specs.declared.slot.Side.TheVariants.{Left, Right}
 use Rattle.slots.specs.declared.compare.Shares.{Shares}
 use Rattle.lent.specs.Tables.{slot_at, entry_at, Rooted, leaf, node, size, In, Apart, Stands}
 use Rattle.lent.specs.Lookups.{compared_at}
-use Rattle.lent.specs.Unzips.{other, child_on, length_on, hung, noted, Same, On, Split, FreeOf, Unzipped, lesser_at, greater_at}
+use Rattle.lent.specs.Unzips.{other, child_on, hung, noted, Same, On, Split, FreeOf, Unzipped, lesser_at, greater_at}
 use Rattle.lent.proofs.Bounds.{compared_within}
 use Rattle.lent.proofs.Tables.{in_strip}
 use Rattle.lent.proofs.Frames.{No, left_not_right, hung_child, hung_same, noted_length, noted_same, then, wider, room, moved}

@@ -1,9 +1,9 @@
 -- A tree of places by the side on which a walk goes on: u is left behind, and v lies ahead.
-use Rattle.std.proofs.Common.{◌≡◌, ℕ, suc, ◌+◌, ◌<◌, ◌≤◌, ◌⊎◌, List, sym, refl, ap, ◌∙◌, subst, inl, inr, arith}
+use Rattle.std.proofs.Common.{◌≡◌, ℕ, suc, ◌+◌, ◌<◌, ◌≤◌, List, sym, refl, ap, ◌∙◌, subst, inl, inr, arith}
 use Rattle.slots.specs.declared.slot.Slot.{Slot}
 use Rattle.slots.specs.declared.slot.Side.{Side}
 use Rattle.slots.specs.declared.slot.Side.TheVariants.{Left, Right}
-use Rattle.lent.specs.Tables.{slot_at, Rooted, leaf, node, size, In, Apart, Stands, rooted}
+use Rattle.lent.specs.Tables.{slot_at, Rooted, node, size, In, Apart, Stands, rooted}
 use Rattle.lent.specs.Unzips.{one_on_side, other, child_on, length_on, Same}
 use Rattle.lent.proofs.Tables.{read_whole}
 use Rattle.lent.proofs.Frames.{moved, left_not_right}

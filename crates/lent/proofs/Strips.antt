@@ -1,5 +1,5 @@
 -- A part of a list overwritten: what is read before it is as it was, and it reads as what was written.
-use Rattle.std.proofs.Common.{◌≡◌, ℕ, ◌+◌, ◌-◌, ◌≤◌, List, ◌++◌, length, take, drop, sym, refl, ap, ◌∙◌, subst, arith, length-drop, length-take, length-take-le, take-take, drop_at}
+use Rattle.std.proofs.Common.{◌≡◌, ℕ, ◌+◌, ◌-◌, ◌≤◌, List, ◌++◌, length, take, drop, ap, ◌∙◌, arith, length-drop, length-take-le, take-take, drop_at}
 use borrow.Rule.Slice.PartMut.{put_mid, Post-is}
 use lib.Seq.{take-append-le, drop-append-le, take-append_seam}
 use Rattle.std.proofs.lemmas.List.{drop-take, length-append}

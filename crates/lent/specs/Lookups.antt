@@ -4,7 +4,7 @@ use Rattle.std.specs.declared.cmp.Ordering.{Ordering}
 use Rattle.std.specs.Option.{option_map}
 use Rattle.words.specs.declared.comparison.Comparison.{Comparison}
 use Rattle.rules.specs.Entries.{Entry}
-use Rattle.rules.specs.Walks.{Walked, lookup}
+use Rattle.rules.specs.Walks.{lookup}
 use Rattle.slots.specs.declared.compare.Shares.{Shares}
 use Rattle.lent.specs.declared.lookup.Walk.{Walk}
 use Rattle.slots.specs.declared.slot.Slot.{Slot}

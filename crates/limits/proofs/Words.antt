@@ -1,8 +1,8 @@
 -- A word that is not refused keeps the ceiling.
-use Rattle.std.proofs.Common.{◌≡◌, ℕ, ◌≤◌, Bool, true, false, cond, eqb, ltb, Some, None, Option, refl, arith}
+use Rattle.std.proofs.Common.{◌≡◌, ℕ, ◌≤◌, Bool, true, false, cond, eqb, ltb, Some, None, refl, arith}
 use Rattle.std.proofs.lemmas.Bool.{ltb-false}
 use Rattle.limits.specs.declared.bounds.Limits.{Limits}
-use Rattle.limits.specs.Refusals.{Told, refused, word_refusal}
+use Rattle.limits.specs.Refusals.{refused, word_refusal}
 
 pub word_fits : (limits : Limits) (symbols : ℕ) → word_refusal limits symbols ≡ None → symbols ≤ limits.ceiling
 word_fits limits symbols h = at (eqb symbols 0) (ltb limits.ceiling symbols) (ltb-false limits.ceiling symbols) h

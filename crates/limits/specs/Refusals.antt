@@ -1,5 +1,5 @@
 -- Refusals: the number of each, and what comes with it.
-use Rattle.std.specs.Prelude.{ℕ, cond, List, [], ◌∷◌, ◌++◌, Some, None, Ok, Err, codes, decimal, Option, Result, ◌==◌, nat_lt}
+use Rattle.std.specs.Prelude.{ℕ, cond, List, [], ◌++◌, Some, None, Ok, Err, codes, decimal, Option, Result, ◌==◌, nat_lt}
 use Rattle.limits.specs.declared.bounds.Limits.{Limits}
 use Rattle.limits.specs.declared.refusal.Refusal.{Refusal}
 use Rattle.limits.specs.declared.refusal.Refusal.TheVariants.{NoSymbols, AboveCeiling, WordHeld, CapacityReached, WordNotHeld, StripShort, WorkStripShort, BufferShort, NotEmpty, RecordEnds, MarkImpossible, WordLength, NoSuchSymbol, BeyondCapacity, OutOfOrder, NotOutranked, WrongLength, ClosingWrong}

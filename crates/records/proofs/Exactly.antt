@@ -1,17 +1,17 @@
 -- A record is read at a place exactly if it stands there.
-use Rattle.std.proofs.Common.{◌≡◌, ℕ, ◌+◌, ◌-◌, ◌*◌, ◌^◌, ◌<◌, ◌≤◌, List, [], ◌∷◌, ◌++◌, length, get_or, take, drop, Ok, Err, Result, sym, refl, ap, ◌∙◌, append_assoc, arith, take-append-drop}
+use Rattle.std.proofs.Common.{◌≡◌, ℕ, ◌+◌, ◌-◌, ◌*◌, ◌^◌, ◌<◌, ◌≤◌, List, ◌++◌, length, take, drop, Ok, Err, Result, sym, refl, ap, ◌∙◌, append_assoc, arith, take-append-drop}
 use Rattle.std.proofs.ByRecursion.{All-take, All-drop}
 use Rattle.std.proofs.lemmas.List.{take_at, drop-drop, length-take-le, length-drop, length-append}
-use Rattle.kinds.specs.Bytes.{Bytes, high_first}
+use Rattle.kinds.specs.Bytes.{Bytes}
 use Rattle.kinds.specs.Numbers.{number_high_first}
 use Rattle.limits.specs.Refusals.{Told, refused_at}
 use Rattle.records.specs.declared.record.Head.{Head}
 use Rattle.records.specs.declared.record.Head.TheVariants.{EntryHead, ClosingHead}
 use Rattle.records.specs.declared.record.Numbers.{Numbers}
 use Rattle.records.specs.Marks.{child_code, mark_of}
-use Rattle.records.specs.Records.{Content, entry, closing, head_bytes, closing_bytes, record_bytes, Proper, ProperEntry, Stands}
+use Rattle.records.specs.Records.{Content, entry, closing, head_bytes, closing_bytes, record_bytes, Proper}
 use Rattle.records.specs.Reading.{Read, field, after_mark, head_in, head_at, with_symbols, record_in, record_at, ReadsExactly}
-use Rattle.records.proofs.Heads.{long, not_short, too_short, mark_of_entry, There, EntryThere, ClosingThere, head_there}
+use Rattle.records.proofs.Heads.{long, not_short, too_short, mark_of_entry, EntryThere, ClosingThere, head_there}
 
 -- ---- what stands is read
 closing_head : (place count : ℕ) (t : List ℕ) → count < 2 ^ 16 → head_in place (closing_bytes count ++ t) ≡ Ok (ClosingHead count)

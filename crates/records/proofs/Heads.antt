@@ -3,9 +3,9 @@ use Rattle.std.proofs.Common.{◌≡◌, ℕ, ◌+◌, ◌^◌, ◌<◌, ◌≤�
 use Rattle.std.specs.Option.{option_map}
 use Rattle.std.proofs.lemmas.Int.Digits.{number_lt}
 use Rattle.std.proofs.ByRecursion.{All-take, All-drop}
-use Rattle.std.proofs.lemmas.List.{drop-drop, length-take-le, length-drop, drop_more}
+use Rattle.std.proofs.lemmas.List.{drop-drop, length-take-le, length-drop}
 use Rattle.std.proofs.lemmas.Bool.{ltb-false, eqb-true, and_parts, cond-true, cond-false, lt-ltb, le-ltb}
-use Rattle.kinds.specs.Bytes.{Bytes, high_first, number_of}
+use Rattle.kinds.specs.Bytes.{Bytes, high_first}
 use Rattle.kinds.specs.Numbers.{high_first_number}
 use Rattle.limits.specs.Refusals.{Told, refused_at}
 use Rattle.records.specs.declared.mark.Children.{Children}

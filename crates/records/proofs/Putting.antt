@@ -1,7 +1,7 @@
 -- A record that was written over a lent rest of a buffer, or was not.
-use Rattle.std.proofs.Common.{◌≡◌, ℕ, ◌+◌, ◌-◌, ◌≤◌, Bool, true, false, cond, ◌&&◌, leb, List, ◌++◌, length, take, drop, Some, None, Ok, Option, sym, refl, ap, ◌∙◌, arith}
+use Rattle.std.proofs.Common.{◌≡◌, ℕ, ◌+◌, ◌-◌, ◌≤◌, Bool, true, false, cond, leb, List, length, take, drop, Some, None, Ok, sym, refl, ap, ◌∙◌, arith}
 use borrow.Rule.Slice.PartMut.{put_mid}
-use Rattle.std.proofs.lemmas.Bool.{cond-true, cond-false, and_from, and_left, and_right, le-leb, leb-true}
+use Rattle.std.proofs.lemmas.Bool.{cond-true, cond-false, and_from, le-leb, leb-true}
 use Rattle.kinds.specs.Bytes.{over}
 use Rattle.kinds.proofs.Buffers.{over_lent, over_stands}
 use Rattle.records.specs.Reading.{record_in}

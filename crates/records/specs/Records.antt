@@ -1,5 +1,5 @@
 -- Records and their bytes. All numbers stand high byte first.
-use Rattle.std.specs.Prelude.{◌≡◌, ℕ, ◌*◌, ◌^◌, ◌<◌, List, [], ◌∷◌, ◌++◌, length, take, drop}
+use Rattle.std.specs.Prelude.{◌≡◌, ℕ, ◌*◌, ◌^◌, ◌<◌, List, ◌∷◌, ◌++◌, length, take, drop}
 use Rattle.kinds.specs.Bytes.{Bytes, high_first}
 use Rattle.records.specs.declared.record.Numbers.{Numbers}
 use Rattle.records.specs.Marks.{child_code}

@@ -1,5 +1,5 @@
 -- A lookup that comes to an entry has met its ancestors, and nothing else.
-use Rattle.std.proofs.Common.{◌≡◌, ℕ, Bool, true, false, cond, ◌&&◌, List, [], ◌∷◌, ◌++◌, Some, None, filter, Option, Ordering, Less, sym, refl, ap, ◌∙◌, append-nil}
+use Rattle.std.proofs.Common.{◌≡◌, ℕ, Bool, true, false, cond, ◌&&◌, List, [], ◌∷◌, ◌++◌, Some, None, filter, Option, Ordering, Less, refl, ap, ◌∙◌, append-nil}
 use Rattle.std.specs.Ordering.{is_le}
 use Rattle.std.specs.List.{AllByRecursion}
 use Rattle.std.proofs.lemmas.List.Elements.{filter-append}
@@ -13,7 +13,7 @@ use Rattle.rules.specs.Trees.{Tree, nothing, top, entries, TreeOf}
 use Rattle.rules.specs.Lookups.{met, met_before}
 use Rattle.rules.proofs.Lists.{Above, Below, all_at, all_left, all_right, kept_none, kept_all, kept_kept}
 use Rattle.rules.proofs.Places.{up_to, on_from, Hangs, hangs_left, hangs_right, hangs_whole, meets, top_met, none_left, none_right, all_before, all_after, not_over_top}
-use Rattle.rules.proofs.Trees.{RankedTop, ranked_of}
+use Rattle.rules.proofs.Trees.{ranked_of}
 
 -- what f says of each entry is its ancestors in word order: lows before it, then highs after it
 abbrev pub AncestorsAre : (Entry → List Entry) → List Entry → List Entry → Tree → Type 0

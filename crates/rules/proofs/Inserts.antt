@@ -1,5 +1,5 @@
 -- The tree of a list with one entry more.
-use Rattle.std.proofs.Common.{◌≡◌, ℕ, Bool, true, false, cond, List, [], ◌∷◌, ◌++◌, Some, None, filter, Option, Ordering, Less, Equal, Greater, sym, refl, ap, ◌∙◌, subst, inl, inr, append_assoc, append-nil}
+use Rattle.std.proofs.Common.{◌≡◌, ℕ, Bool, true, false, cond, List, [], ◌∷◌, ◌++◌, Some, None, filter, Option, Ordering, Less, Equal, Greater, sym, refl, ap, ◌∙◌, subst, append_assoc, append-nil}
 use Rattle.std.specs.Ordering.{is_lt}
 use Rattle.std.specs.List.{AllByRecursion}
 use Rattle.std.proofs.lemmas.List.Elements.{filter-append}
@@ -15,7 +15,7 @@ use Rattle.rules.specs.Walks.{turned}
 use Rattle.rules.specs.Inserts.{lesser, greater, inserted}
 use Rattle.rules.proofs.Lists.{Above, Below, above_chains, below_chains, all_at, all_left, all_right, kept_none, kept_all, Rising, rising_before, rising_left, rising_right, rising_of_ordered}
 use Rattle.rules.proofs.Ranks.{outranks_chains, outranks_other}
-use Rattle.rules.proofs.Trees.{RankedTop, ranked_of, ranked_to, by}
+use Rattle.rules.proofs.Trees.{ranked_of, ranked_to, by}
 
 -- no entry has the word w
 abbrev pub Lacks : List ℕ → List Entry → Type 0

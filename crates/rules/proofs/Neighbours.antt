@@ -8,7 +8,7 @@ use Rattle.kinds.specs.Orders.{Lawful}
 use Rattle.words.specs.declared.comparison.Comparison.{Comparison}
 use Rattle.words.specs.Words.{word_order, shared}
 use Rattle.words.proofs.Orders.{words_lawful}
-use Rattle.words.proofs.Sharing.{before_of_after, after_of_before, le_then_less, less_then_le}
+use Rattle.words.proofs.Sharing.{before_of_after, le_then_less, less_then_le}
 use Rattle.rules.specs.Entries.{Entry, before}
 use Rattle.rules.specs.Held.{first_of, last_of, ordered, nearest_before, nearest_after}
 use Rattle.rules.specs.Trees.{Tree, nothing, top, entries, Exact, TreeOf}

@@ -1,5 +1,5 @@
 -- A subtree in the tree of an ordered list: what stands before and after it, and what a lookup that comes to it has met.
-use Rattle.std.proofs.Common.{◌≡◌, ℕ, Bool, true, false, cond, not, ◌&&◌, ◌||◌, List, [], ◌∷◌, ◌++◌, Some, None, filter, Option, Ordering, Less, Equal, Greater, sym, refl, ap, ◌∙◌, subst, append_assoc, append-nil}
+use Rattle.std.proofs.Common.{◌≡◌, ℕ, Bool, true, false, cond, not, ◌&&◌, List, [], ◌∷◌, ◌++◌, Some, None, filter, Option, Ordering, Less, Equal, Greater, sym, refl, ap, ◌∙◌, subst, append_assoc, append-nil}
 use Rattle.std.specs.Ordering.{is_lt, is_le, ordering_reverse}
 use Rattle.std.specs.List.{AllByRecursion}
 use Rattle.std.proofs.lemmas.List.Elements.{filter-append}
@@ -8,15 +8,15 @@ use Rattle.std.proofs.lemmas.Bool.{and_from, and_left, and_right, or_from, or_le
 use Rattle.kinds.specs.Orders.{Lawful}
 use Rattle.words.specs.Words.{word_order}
 use Rattle.words.proofs.Orders.{words_lawful}
-use Rattle.words.proofs.Sharing.{after_of_before, before_of_after, shared_swaps}
+use Rattle.words.proofs.Sharing.{after_of_before, shared_swaps}
 use Rattle.rules.specs.Entries.{Entry, before, is_not_after, outranks, between}
 use Rattle.rules.specs.Held.{some, first_of, last_of, ordered, nearest_before, nearest_after}
 use Rattle.rules.specs.Trees.{Tree, nothing, top, entries, ranked, shared_with, Exact, TreeOf}
 use Rattle.rules.specs.Lookups.{met, met_before, left_length_of, right_length_of, shared_with_entry}
 use Rattle.rules.specs.Walks.{turned}
-use Rattle.rules.proofs.Lists.{Above, Below, above_chains, below_chains, all_at, all_left, all_right, all_both, kept_none, kept_kept, some_none, some_at, last_push, Rising, rising_before, rising_right, rising_of_ordered}
+use Rattle.rules.proofs.Lists.{Above, Below, all_at, all_left, all_right, all_both, kept_none, kept_kept, some_none, some_at, last_push, Rising, rising_before, rising_right, rising_of_ordered}
 use Rattle.rules.proofs.Ranks.{outranks_swaps, outranks_itself}
-use Rattle.rules.proofs.Trees.{RankedTop, ranked_of}
+use Rattle.rules.proofs.Trees.{ranked_of}
 
 -- each entry's two lengths are what f and g say of it
 abbrev pub Measures : (Entry → ℕ) → (Entry → ℕ) → Tree → Type 0

@@ -1,5 +1,5 @@
 -- Of entries with different words exactly one outranks the other, and outranking goes on.
-use Rattle.std.proofs.Common.{◌≡◌, ℕ, ◌<◌, Bool, true, false, ◌&&◌, ◌||◌, eqb, ltb, ◌⊎◌, Ordering, Less, sym, refl, ap, ◌∙◌, inl, inr, arith}
+use Rattle.std.proofs.Common.{◌≡◌, ℕ, ◌<◌, Bool, true, false, ◌&&◌, eqb, ltb, ◌⊎◌, Ordering, Less, sym, refl, ap, ◌∙◌, inl, inr, arith}
 use Rattle.std.specs.Ordering.{is_lt}
 use Rattle.std.proofs.lemmas.Bool.{ltb-true, eqb-true, lt-ltb, eq-eqb, or_cases, or_left, or_right, and_parts, and_from, false≢true, cases_order}
 use Rattle.kinds.specs.Orders.{Lawful}

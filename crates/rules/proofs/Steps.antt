@@ -1,13 +1,12 @@
 -- Where the tree is that of the list, the steps of a lookup part it, and put an entry in, as the order of words does.
-use Rattle.std.proofs.Common.{◌≡◌, ℕ, max, Bool, true, false, cond, ◌&&◌, ◌||◌, eqb, ltb, List, [], ◌∷◌, ◌++◌, Some, None, Option, Ordering, Less, Equal, Greater, sym, refl, ap, ◌∙◌, subst}
+use Rattle.std.proofs.Common.{◌≡◌, ℕ, Bool, true, cond, ◌&&◌, ◌||◌, eqb, ltb, List, [], ◌∷◌, ◌++◌, Some, None, Option, Ordering, Less, Equal, Greater, sym, refl, ap, ◌∙◌, subst}
 use Rattle.std.specs.Ordering.{is_lt, is_gt, ordering_reverse}
-use Rattle.std.specs.List.{AllByRecursion}
 use Rattle.kinds.specs.Orders.{Lawful}
 use Rattle.words.specs.declared.comparison.Comparison.{Comparison}
 use Rattle.words.specs.Words.{word_order, shared}
 use Rattle.words.proofs.Orders.{words_lawful}
 use Rattle.words.proofs.Sharing.{before_of_after}
-use Rattle.rules.specs.Entries.{Entry, before, outranks}
+use Rattle.rules.specs.Entries.{Entry, outranks}
 use Rattle.rules.specs.Held.{ordered, with}
 use Rattle.rules.specs.Trees.{Tree, nothing, top, entries, Exact, TreeOf}
 use Rattle.rules.specs.Lookups.{shared_with_entry, pairs_at}

@@ -1,5 +1,5 @@
 -- The lookup by steps does what the list says.
-use Rattle.std.proofs.Common.{◌≡◌, ℕ, ◌+◌, ◌-◌, ◌<◌, ◌≤◌, min, max, Bool, true, false, cond, ◌&&◌, eqb, ltb, ◌⊎◌, List, [], ◌∷◌, ◌++◌, length, drop, Some, None, filter, Option, Ordering, Less, Equal, Greater, sym, refl, ap, ◌∙◌, subst, inl, inr, append-nil, arith}
+use Rattle.std.proofs.Common.{◌≡◌, ℕ, ◌+◌, ◌-◌, ◌<◌, ◌≤◌, max, Bool, true, false, cond, eqb, ltb, List, [], ◌∷◌, ◌++◌, length, Some, None, filter, Option, Ordering, Less, Equal, Greater, sym, refl, ap, ◌∙◌, subst, inl, inr, append-nil, arith}
 use Rattle.std.specs.Ordering.{is_le, is_eq, ordering_reverse}
 use Rattle.std.specs.List.{AllByRecursion}
 use Rattle.std.specs.List.Sorted.{IsPermutation}
@@ -21,7 +21,7 @@ use Rattle.rules.specs.Lookups.{met, pairs_at, pairs_of, shared_with_entry}
 use Rattle.rules.specs.Walks.{turned, Walked, after, compared, lookup, Falling, LawOfLookup}
 use Rattle.rules.proofs.Lists.{Above, Below, all_at, all_left, all_right, kept_none, Rising, rising_before, rising_right, rising_left, rising_of_ordered}
 use Rattle.rules.proofs.Places.{on_way, up_to, on_from, word_of, Hangs, hangs_left, hangs_right, hangs_whole, near_before, near_after, measures, all_before, all_after, above_left, below_right, met_of_list}
-use Rattle.rules.proofs.Trees.{RankedTop, ranked_of}
+use Rattle.rules.proofs.Trees.{ranked_of}
 
 -- the entries met on the way to w from the top down
 abbrev pub way_to : (ℕ → ℕ → Ordering) → List ℕ → Tree → List Entry

@@ -1,12 +1,11 @@
 -- The way of a lookup down a tree, by stored lengths.
-use Rattle.std.specs.Prelude.{◌≡◌, ℕ, ◌+◌, ◌≤◌, max, Bool, true, cond, List, [], ◌∷◌, ◌++◌, length, Some, None, Option, nat_lt}
+use Rattle.std.specs.Prelude.{◌≡◌, ℕ, ◌+◌, ◌≤◌, max, Bool, true, cond, List, [], ◌∷◌, length, Some, None, Option, nat_lt}
 use Rattle.std.specs.declared.cmp.Ordering.TheVariants.{Less, Equal, Greater}
 use Rattle.std.specs.declared.cmp.Ordering.{Ordering}
 use Rattle.std.specs.List.{AllByRecursion}
 use Rattle.std.specs.List.Sorted.{IsPermutation}
 use Rattle.words.specs.declared.comparison.Comparison.{Comparison}
 use Rattle.words.specs.Comparisons.{compared_from}
-use Rattle.words.specs.Words.{word_order}
 use Rattle.rules.specs.Entries.{Entry, outranks}
 use Rattle.rules.specs.Held.{entry_of, longest_shared}
 use Rattle.rules.specs.Lookups.{met, pairs_of}

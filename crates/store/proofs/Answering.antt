@@ -1,18 +1,17 @@
 -- What an add answers and leaves is what the plain list with the limits says.
-use Rattle.std.proofs.Common.{◌≡◌, ℕ, suc, ◌+◌, ◌<◌, ◌≤◌, Bool, true, false, cond, eqb, ltb, List, [], ◌∷◌, ◌++◌, map, length, Some, None, Ok, Err, filter, Option, Result, Ordering, sym, refl, ap, ◌∙◌, subst, arith}
+use Rattle.std.proofs.Common.{◌≡◌, ℕ, suc, ◌<◌, ◌≤◌, Bool, true, false, cond, eqb, ltb, List, [], ◌∷◌, length, Some, None, Ok, Err, filter, Option, Result, Ordering, sym, refl, ap, ◌∙◌, subst, arith}
 use Rattle.std.specs.Ordering.{is_eq}
-use Rattle.std.specs.List.{AllByRecursion}
 use Rattle.std.proofs.lemmas.List.{length-append}
 use Rattle.std.proofs.lemmas.Bool.{cond-true, cond-false, lt-ltb, le-ltb, true≢false}
 use Rattle.kinds.specs.Orders.{Lawful}
 use Rattle.limits.specs.declared.refusal.Refusal.{Refusal}
 use Rattle.limits.specs.declared.refusal.Refusal.TheVariants.{NoSymbols, AboveCeiling, WordHeld, CapacityReached}
-use Rattle.limits.specs.Refusals.{Told, refused, told}
+use Rattle.limits.specs.Refusals.{Told, told}
 use Rattle.words.specs.Words.{word_order}
 use Rattle.words.proofs.Orders.{words_lawful}
 use Rattle.rules.specs.Entries.{Entry}
 use Rattle.rules.specs.Held.{ordered, entry_of, first_of, is_word, with}
-use Rattle.rules.specs.Trees.{Tree, entries, TreeOf}
+use Rattle.rules.specs.Trees.{entries, TreeOf}
 use Rattle.rules.specs.Walks.{lookup}
 use Rattle.rules.proofs.Inserts.{Lacks}
 use Rattle.rules.proofs.Lists.{ordered_with}

@@ -1,5 +1,5 @@
 -- Memory just opened: no entry is held, whatever the memory held.
-use Rattle.std.proofs.Common.{◌≡◌, ℕ, ◌≤◌, List, length, sym, refl, ap, ◌∙◌, subst, arith}
+use Rattle.std.proofs.Common.{◌≡◌, ℕ, List, length, sym, ap, subst, arith}
 use Rattle.limits.specs.declared.bounds.Limits.{Limits}
 use Rattle.limits.specs.Capacity.{limits_for}
 use Rattle.store.specs.declared.slot.Slot.{Slot}

@@ -1,5 +1,5 @@
 -- The loop that parts a tree in the table: the top of what is left goes on one of two hooks, and the walk goes on below it.
-use Rattle.std.proofs.Common.{◌≡◌, ℕ, suc, ◌+◌, ◌*◌, ◌<◌, ◌≤◌, max, Bool, true, false, cond, ltb, ◌⊎◌, List, map, length, take, drop, Ordering, sym, refl, ap, ◌∙◌, subst, inl, inr, arith}
+use Rattle.std.proofs.Common.{◌≡◌, ℕ, ◌+◌, ◌*◌, ◌<◌, ◌≤◌, max, true, false, cond, ltb, ◌⊎◌, List, map, length, take, drop, Ordering, sym, refl, ap, ◌∙◌, subst, inl, inr, arith}
 use Rattle.std.specs.Ordering.{is_gt}
 use Rattle.std.proofs.lemmas.Bool.{cond-true, cond-false}
 use Rattle.words.specs.declared.comparison.Comparison.{Comparison}
@@ -13,7 +13,7 @@ use Rattle.store.specs.declared.slot.Side.TheVariants.{Left, Right}
 use Rattle.store.specs.declared.lookup.Shares.{Shares}
 use Rattle.store.specs.Tables.{slot_at, entry_at, Rooted, leaf, node, size, In, Apart, Stands}
 use Rattle.store.specs.Lookups.{compared_at}
-use Rattle.store.specs.Unzips.{other, child_on, length_on, hung, noted, Same, On, Split, FreeOf, Unzipped, lesser_at, greater_at}
+use Rattle.store.specs.Unzips.{other, child_on, hung, noted, Same, On, Split, FreeOf, Unzipped, lesser_at, greater_at}
 use Rattle.store.proofs.Bounds.{compared_within}
 use Rattle.store.proofs.Tables.{in_strip}
 use Rattle.store.proofs.Frames.{No, left_not_right, hung_child, hung_same, noted_length, noted_same, then, wider, room, moved}

@@ -1,9 +1,9 @@
 -- Which places the parts of a tree have, and the tree with one place more: none is lost, none stands twice; and their entries are parted as the rules say.
-use Rattle.std.proofs.Common.{◌≡◌, ℕ, suc, ◌+◌, Bool, true, false, cond, ◌⊎◌, List, Ordering, sym, refl, ap, ◌∙◌, subst, ap₂, inl, inr, arith}
+use Rattle.std.proofs.Common.{◌≡◌, ℕ, suc, ◌+◌, true, false, cond, ◌⊎◌, List, Ordering, sym, refl, ap, subst, ap₂, inl, inr, arith}
 use Rattle.std.specs.Ordering.{is_gt}
 use Rattle.words.specs.declared.comparison.Comparison.{Comparison}
 use Rattle.rules.specs.Entries.{Entry}
-use Rattle.rules.specs.Trees.{Tree, nothing, top}
+use Rattle.rules.specs.Trees.{Tree, top}
 use Rattle.rules.specs.Walks.{step_at}
 use Rattle.rules.specs.Inserts.{lesser_by, greater_by, inserted_by, is_above}
 use Rattle.store.specs.Tables.{Rooted, leaf, node, size, In, Apart, plain}

@@ -5,7 +5,7 @@ use denote.Struct.Props.{props}
 use native.Mathlib.Bridge.{le_prop}
 use Rattle.limits.specs.declared.bounds.Limits.{Limits}
 use Rattle.store.specs.declared.slot.Slot.{Slot}
-use Rattle.store.specs.Tables.{Rooted, leaf, node, size, In, Apart, Stands, Sound, slot_at, rooted}
+use Rattle.store.specs.Tables.{Rooted, leaf, node, size, Apart, Stands, Sound, slot_at, rooted}
 use Rattle.store.specs.Stores.{Filled}
 
 stands_prop : (T : List Slot) (capacity q : ℕ) (t : Rooted) → IsProp (Stands T capacity q t)

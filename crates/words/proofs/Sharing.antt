@@ -1,9 +1,9 @@
 -- How three words stand to each other, and what they share.
-use Rattle.std.proofs.Common.{◌≡◌, ℕ, zero, suc, ◌+◌, ◌-◌, ◌<◌, ◌≤◌, min, true, ◌⊎◌, List, [], ◌∷◌, length, drop, Ordering, Less, Equal, Greater, sym, refl, ap, ◌∙◌, inl, inr, suc-le-suc, zero-le, le_of_suc-le-suc, not-suc-le-zero, arith}
+use Rattle.std.proofs.Common.{◌≡◌, ℕ, zero, suc, ◌-◌, ◌<◌, ◌≤◌, min, true, ◌⊎◌, List, [], ◌∷◌, length, drop, Ordering, Less, Equal, Greater, sym, refl, ap, ◌∙◌, inl, inr, suc-le-suc, zero-le, le_of_suc-le-suc, not-suc-le-zero, arith}
 use Rattle.std.specs.Ordering.{ordering_then, ordering_reverse, is_lt, is_le}
 use Rattle.kinds.specs.Orders.{Lawful}
 use Rattle.words.specs.Words.{word_order, shared, looked}
-use Rattle.words.proofs.Orders.{greater_less, equal_less, equal_greater, words_lawful}
+use Rattle.words.proofs.Orders.{greater_less, equal_less, words_lawful}
 use Rattle.words.proofs.Openings.{shared_at, shared_front, from_position}
 
 -- what no ordering is

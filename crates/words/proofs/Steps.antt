@@ -1,7 +1,7 @@
 -- The steps of a comparison: what was found equal so far, and how it ends.
 use Rattle.std.proofs.Common.{◌≡◌, ℕ, ◌+◌, ◌-◌, ◌<◌, ◌≤◌, min, List, [], ◌∷◌, map, length, get_or, drop, Ordering, Less, Equal, Greater, sym, refl, ap, ◌∙◌, arith}
 use Rattle.std.specs.Ordering.{ordering_then, MatchOrdering}
-use Rattle.std.proofs.lemmas.List.{drop-map, drop_more, drop_all, length-drop}
+use Rattle.std.proofs.lemmas.List.{drop-map, drop_more, length-drop}
 use Rattle.kinds.specs.Orders.{Lawful}
 use Rattle.words.specs.declared.comparison.Comparison.{Comparison}
 use Rattle.words.specs.Comparisons.{start, compared_from, AsFromTheStart, Tells}

@@ -1,4 +1,4 @@
-use Rattle.std.proofs.Common.{◌≡◌, ◌^◌, ◌<◌, length}
+use Rattle.std.proofs.Common.{◌^◌, ◌<◌}
 use Rattle.lent.specs.Stores.{entry_of, places}
 use Rattle.lent.specs.Unzips.{Grown, inserted_at}
 use Rattle.lent.proofs.Sides.{span}

@@ -1,4 +1,4 @@
-use Rattle.std.proofs.Common.{◌≡◌, ℕ, ◌+◌, ◌*◌, ◌≤◌, length, sym, ap, ◌∙◌, subst, arith}
+use Rattle.std.proofs.Common.{ℕ, ◌+◌, ◌*◌, ◌≤◌, length, sym, ap, ◌∙◌, subst, arith}
 use Rattle.lent.specs.Tables.{overwritten}
 use Rattle.lent.proofs.Adding.{word_room, attach_free, attach_word, filled_by}
 use Rattle.lent.proofs.calls.fill.Goals as goal

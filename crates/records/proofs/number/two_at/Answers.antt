@@ -1,6 +1,6 @@
-use Rattle.std.proofs.Common.{◌≡◌, sym, ap, ◌∙◌, arith}
+use Rattle.std.proofs.Common.{ap, arith}
 use Rattle.kinds.specs.Bytes.{number_of}
-use Rattle.kinds.specs.Numbers.{places, part_listed}
+use Rattle.kinds.specs.Numbers.{part_listed}
 use Rattle.records.proofs.number.two_at.Goals as goal
 
 pub returns : goal.returns

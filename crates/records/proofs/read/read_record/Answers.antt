@@ -1,8 +1,6 @@
-use Rattle.std.proofs.Common.{◌≡◌, ℕ, ◌+◌, ◌*◌, ◌<◌, ◌≤◌, List, length, drop, Ok, Err, Result, sym, refl, ap, ◌∙◌, arith, rules}
-use Rattle.std.proofs.lemmas.List.{length-drop}
+use Rattle.std.proofs.Common.{◌≡◌, ℕ, ◌+◌, ◌*◌, ◌≤◌, length, drop, Ok, sym, refl, ap, ◌∙◌, arith, rules}
 use Rattle.std.proofs.lemmas.Result.{err_from_is_err_and}
 use Rattle.kinds.proofs.Buffers.{bytes_typed}
-use Rattle.limits.specs.Refusals.{Told}
 use Rattle.records.specs.declared.record.Head.{Head}
 use Rattle.records.specs.declared.record.Head.TheVariants.{EntryHead, ClosingHead}
 use Rattle.records.specs.Reading.{head_at, with_symbols}

@@ -1,4 +1,4 @@
-use Rattle.std.proofs.Common.{◌≡◌, ℕ, List, [], ◌∷◌, ◌++◌, refl, ap, ◌∙◌, arith}
+use Rattle.std.proofs.Common.{ℕ, List, [], ◌∷◌, ◌++◌, refl, ap, ◌∙◌, arith}
 use Rattle.kinds.specs.Bytes.{high_first, over}
 use Rattle.kinds.proofs.Buffers.{over_two, over_next}
 use Rattle.records.specs.Marks.{child_code}

@@ -1,11 +1,10 @@
-use Rattle.std.proofs.Common.{◌≡◌, ℕ, ◌+◌, ◌-◌, ◌*◌, ◌<◌, ◌≤◌, Bool, true, cond, List, ◌++◌, map, length, take, drop, sym, refl, ap, ◌∙◌, add-mul, arith, rules}
+use Rattle.std.proofs.Common.{◌≡◌, ℕ, ◌+◌, ◌-◌, ◌*◌, ◌<◌, ◌≤◌, List, map, length, take, drop, sym, refl, ap, ◌∙◌, add-mul, arith, rules}
 use Rattle.std.specs.List.{flat_map}
 use Rattle.std.proofs.lemmas.List.{length-map, length-take-le, length-drop, take_all, take_rest}
 use Rattle.std.proofs.lemmas.Bool.{cond-true, le-leb}
 use Rattle.kinds.specs.Bytes.{over}
 use Rattle.kinds.proofs.Buffers.{over_next}
 use Rattle.records.proofs.Symbols.{joined_step, length_joined, room}
-use Rattle.records.proofs.write.put_word.Given as given
 use Rattle.records.proofs.write.put_word.Goals as goal
 
 pub loop-symbol-init : goal.loop-symbol-init

@@ -1,4 +1,4 @@
-use Rattle.std.proofs.Common.{◌≡◌, ℕ, ◌+◌, ◌<◌, ◌≤◌, Bool, true, false, cond, leb, length, sym, refl, ap, ◌∙◌, arith}
+use Rattle.std.proofs.Common.{◌+◌, length, refl, arith}
 use Rattle.records.specs.Records.{closing}
 use Rattle.records.proofs.Putting.{put, not_put, no_room, room_there}
 use Rattle.records.proofs.write.write_closing.Goals as goal

@@ -1,4 +1,4 @@
-use Rattle.std.proofs.Common.{◌≡◌, ℕ, ◌+◌, ◌-◌, ◌*◌, ◌^◌, ◌<◌, ◌≤◌, Bool, true, false, ◌&&◌, ltb, leb, List, ◌++◌, map, length, take, drop, sym, refl, ap, ◌∙◌, arith, rules}
+use Rattle.std.proofs.Common.{◌≡◌, ℕ, ◌+◌, ◌-◌, ◌*◌, ◌^◌, ◌<◌, ltb, leb, List, ◌++◌, map, length, take, drop, sym, ap, ◌∙◌, arith, rules}
 use Rattle.std.specs.List.{flat_map}
 use Rattle.std.proofs.lemmas.List.{length-map}
 use Rattle.std.proofs.lemmas.Bool.{and_left, and_right, lt-ltb, le-ltb}
@@ -6,7 +6,7 @@ use Rattle.kinds.specs.Bytes.{over}
 use Rattle.kinds.specs.Codecs.{Codec, Faithful}
 use Rattle.records.specs.declared.record.Numbers.{Numbers}
 use Rattle.records.specs.Records.{head_bytes, record_bytes, ProperEntry}
-use Rattle.records.specs.Writing.{entry_of, fits_size, fits_at}
+use Rattle.records.specs.Writing.{entry_of, fits_size}
 use Rattle.records.proofs.Symbols.{length_joined, bytes_joined}
 use Rattle.records.proofs.Putting.{put, not_put, no_room, room_there}
 use Rattle.records.proofs.write.write_entry.Goals as goal

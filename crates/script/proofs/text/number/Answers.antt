@@ -1,4 +1,4 @@
-use Rattle.std.proofs.Common.{◌≡◌, ℕ, List, length, get_or, sym, ap, ◌∙◌, arith, rules}
+use Rattle.std.proofs.Common.{◌≡◌, get_or, ◌∙◌, rules}
 use Rattle.script.proofs.Numerals.{parsed, signed, empty}
 use Rattle.script.proofs.text.number.Goals as goal
 

@@ -1,4 +1,4 @@
-use Rattle.std.proofs.Common.{◌≡◌, ◌^◌, ◌<◌, length}
+use Rattle.std.proofs.Common.{◌^◌, ◌<◌}
 use Rattle.store.specs.Stores.{entry_of, places}
 use Rattle.store.specs.Unzips.{Grown, inserted_at}
 use Rattle.store.proofs.Sides.{span}

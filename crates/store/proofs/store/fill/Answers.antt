@@ -1,4 +1,4 @@
-use Rattle.std.proofs.Common.{◌≡◌, ℕ, suc, ◌+◌, ◌*◌, ◌≤◌, List, map, length, set, sym, refl, ap, ◌∙◌, subst, arith}
+use Rattle.std.proofs.Common.{◌≡◌, ℕ, ◌+◌, ◌*◌, ◌≤◌, List, map, length, set, sym, refl, ap, ◌∙◌, subst, arith}
 use Rattle.store.specs.Tables.{entry_at, overwritten, rooted}
 use Rattle.store.specs.Unzips.{FreeOf, Grown, inserted_at}
 use Rattle.store.proofs.Adding.{in_room, free_of, new_word, filled_by}

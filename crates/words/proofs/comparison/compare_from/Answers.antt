@@ -1,9 +1,8 @@
-use Rattle.std.proofs.Common.{◌≡◌, ℕ, ◌+◌, ◌<◌, min, List, map, length, sym, ◌∙◌, arith}
+use Rattle.std.proofs.Common.{◌≡◌, ℕ, ◌<◌, min, List, map, length, sym, ◌∙◌, arith}
 use Rattle.std.proofs.lemmas.List.{length-map}
 use Rattle.std.proofs.lemmas.Cmp.{ranked}
 use Rattle.words.specs.Comparisons.{start}
 use Rattle.words.proofs.Steps.{Agreed, cut, agreed_none, agreed_more, differs, ends, from_start, as_from_the_start}
-use Rattle.words.proofs.comparison.compare_from.Given as given
 use Rattle.words.proofs.comparison.compare_from.Goals as goal
 
 -- the words of the two strips are as long as the strips, so the comparison starts where the code does

@@ -1,4 +1,4 @@
-use Rattle.std.proofs.Common.{◌≡◌, ℕ, length, ap, ◌∙◌, rules}
+use Rattle.std.proofs.Common.{◌≡◌, length, ap, ◌∙◌, rules}
 use Rattle.kinds.specs.Bytes.{number_of}
 use Rattle.kinds.specs.Codes.{reads_as}
 use Rattle.kinds.specs.Numbers.{listed}

@@ -1,4 +1,4 @@
-use Rattle.std.proofs.Common.{◌≡◌, ℕ, map, length, None, Err, Result, sym, refl, ap, ◌∙◌, subst, arith}
+use Rattle.std.proofs.Common.{ℕ, map, Err, Result, sym, refl, ap, ◌∙◌, subst, arith}
 use Rattle.std.proofs.lemmas.List.{length-map}
 use Rattle.std.proofs.lemmas.Result.{err_from_is_err_and}
 use Rattle.limits.specs.declared.refusal.Refusal.{Refusal}
@@ -8,7 +8,6 @@ use Rattle.rules.specs.Calls.{added}
 use Rattle.rules.specs.Entries.{Entry}
 use Rattle.lent.specs.Keeping.{Follows}
 use Rattle.lent.proofs.Answering.{word_refused, word_held, capacity_reached, entry_added}
-use Rattle.lent.proofs.memory.Memory.add.Given as given
 use Rattle.lent.proofs.memory.Memory.add.Goals as goal
 
 pub is_held-requires : goal.is_held-requires

@@ -1,4 +1,4 @@
-use Rattle.std.proofs.Common.{◌≡◌, ◌<◌, map, length, Some, sym, ap, ◌∙◌, arith}
+use Rattle.std.proofs.Common.{map, length, Some, sym, ap, ◌∙◌, arith}
 use Rattle.std.specs.Option.{option_map}
 use Rattle.slots.specs.declared.slot.Side.TheVariants.{Right}
 use Rattle.lent.specs.Entries.{listed_at, listing}
