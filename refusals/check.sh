@@ -9,29 +9,20 @@ work=$(mktemp -d)
 trap 'rm -rf "$work"' EXIT
 trap 'exit 1' HUP INT TERM
 
-cp -R "$root/crates" "$root/crates.txt" "$work"
-# What the repository has proved is taken over: rt knows by its stamps whether it still holds.
-if [ -d "$root/target/rlib" ] && [ -d "$root/target/stamp" ]; then
-    mkdir "$work/target"
-    cp -R "$root/target/rlib" "$root/target/stamp" "$work/target"
-fi
-cd "$work"
-if ! rt check dictionary >out 2>&1; then
-    cat out
-    echo "refusals: the crate dictionary is not proved"
-    exit 1
-fi
-echo 'user: dictionary' >>crates.txt
+# The sources stand in a crate above the dictionary, in a copy, so that the repository stays as it is.
+tar -C "$root" --exclude=out -cf - crates crates.txt | tar -C "$work" -xf -
+echo 'user: dictionary' >>"$work/crates.txt"
+user=$work/crates/user
+mkdir -p "$user/src"
+cd "$user"
 
 wrong=0
 for folder in "$here"/*/; do
     name=$(basename "$folder")
-    rm -rf crates/user
-    mkdir -p crates/user/src
-    cp "${folder}lib.rt.txt" crates/user/src/lib.rt
+    cp "${folder}lib.rt.txt" src/lib.rt
     status=0
-    rt check user >out 2>&1 || status=$?
-    said=$(grep -o 'error\[[a-z0-9-]*\]' out | sort -u || true)
+    rt check >"$work/said" 2>&1 || status=$?
+    said=$(grep -o 'error\[[a-z0-9-]*\]' "$work/said" | sort -u || true)
     if [ -f "${folder}error" ]; then
         must="refused by error[$(cat "${folder}error")]"
     else
@@ -46,7 +37,7 @@ for folder in "$here"/*/; do
         echo "refusals $name: $is, as it must be"
     else
         echo "refusals $name: MUST BE $must, is $is"
-        cat out
+        cat "$work/said"
         wrong=1
     fi
 done

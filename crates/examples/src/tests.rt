@@ -170,7 +170,7 @@ fn a_record_is_read_back_where_it_was_written(rt: HostRuntime) -> Result<(), Fai
     assert_eq!(rt; numbers.left, 65535);
     assert_eq!(rt; numbers.right, 258);
     assert_eq!(rt; length, 1);
-    assert_eq!(rt; symbols, &[0, 0, 80]);
+    assert_eq!(rt; symbols, [0, 0, 80].as_slice());
     assert_eq!(rt; next, 21);
     Ok(())
 }

@@ -22,7 +22,7 @@ use Rattle.rules.proofs.Walks.{lookup_law}
 use Rattle.lent.specs.declared.memory.Memory.{Memory}
 use Rattle.lent.specs.Tables.{Rooted, leaf, node, size, plain}
 use Rattle.lent.specs.Stores.{FilledBy, FilledIn, tree, held, places}
-use Rattle.lent.specs.Stores.{entry_of as entryIn}
+use Rattle.lent.specs.Stores.{entry_of as entry_in}
 use Rattle.lent.specs.Keeping.{Kept, Follows}
 
 -- a tree of places has as many entries as places
@@ -44,7 +44,7 @@ ok_not_err e = subst IsAnswer e tt
 
 -- as many entries are held as were counted
 pub held_count : {S : Type 0} (symbol : S → ℕ) (m : Memory S) → FilledIn m → length (held symbol m) ≡ m.count
-held_count symbol m F = length_entries (entryIn symbol m) (places m) ∙ F.counted
+held_count symbol m F = length_entries (entry_in symbol m) (places m) ∙ F.counted
 
 module _ (order : ℕ → ℕ → Ordering) {S : Type 0} (symbol : S → ℕ) (rule : Limits → List Entry → Outcome) (m : Memory S) where
   -- a refusal, where the rule has that cause

@@ -7,7 +7,7 @@ ghost use Rattle.slots.specs.declared.slot.Side.TheVariants.{Right};
 ghost use Rattle.lent.specs.declared.lookup.Looked.{Looked};
 ghost use Rattle.lent.specs.Entries.{LookedOf, listed_in, listing, pairs_of};
 ghost use Rattle.lent.specs.Keeping.{Follows, Kept};
-ghost use Rattle.lent.specs.Neighbours.{nearest as nearestEntry};
+ghost use Rattle.lent.specs.Neighbours.{nearest as nearest_entry};
 ghost use Rattle.lent.specs.Stores.{FilledBy, FilledIn, HasRoom, Opened, held, tree};
 
 use crate::attach::attach;
@@ -90,7 +90,7 @@ impl<'a, S: Ordered> Memory<'a, S> {
     // The held entry that follows a word in word order, with its two stored lengths; the first one of all follows the word without symbols.
     pub fn following(&self, word: &[S]) -> Option<Entry<'_, S>>
         requires { FilledIn self.now }
-        ensures { Kept S.Ordered.order S.Ordered.symbol self.now → option_map (listing S.Ordered.symbol) result ≡ option_map (listed_in S.Ordered.order (held S.Ordered.symbol self.now)) (nearestEntry S.Ordered.order Right (map S.Ordered.symbol word.now) (held S.Ordered.symbol self.now)) }
+        ensures { Kept S.Ordered.order S.Ordered.symbol self.now → option_map (listing S.Ordered.symbol) result ≡ option_map (listed_in S.Ordered.order (held S.Ordered.symbol self.now)) (nearest_entry S.Ordered.order Right (map S.Ordered.symbol word.now) (held S.Ordered.symbol self.now)) }
     {
         let place = nearest(self, word, Side::Right)?;
         Some(entry_at(self, place))

@@ -5,7 +5,7 @@ use Rattle.std.specs.Ordering.{is_eq}
 use Rattle.words.specs.Words.{word_order, shared}
 use Rattle.rules.specs.Entries.{Entry, before}
 
--- Plain words on lists. `kept_by p xs` are the elements of xs that pass the test p, in their order.
+-- Plain words on lists. `filter p xs` are the elements of xs that pass the test p, in their order.
 module _ {A : Type 0} where
   abbrev pub some : (A → Bool) → List A → Bool
   some p [] = false

@@ -30,9 +30,9 @@ module _ (order : ℕ → ℕ → Ordering) where
   -- A sought word against an entry's, by what each shares with the nearest entry met, which stands before both or after both.
   -- Where the sought word shares more, it lies on that entry's side, where it shares less, on the other, and nothing is compared; else they are compared from there on.
   abbrev pub compared : List ℕ → List ℕ → Bool → ℕ → ℕ → Comparison
-  compared w v isBefore kept stored =
-      cond (nat_lt stored kept) (record { answer = cond isBefore Less Greater; share = stored; pairs = 0 })
-      (cond (nat_lt kept stored) (record { answer = cond isBefore Greater Less; share = kept; pairs = 0 })
+  compared w v is_before kept stored =
+      cond (nat_lt stored kept) (record { answer = cond is_before Less Greater; share = stored; pairs = 0 })
+      (cond (nat_lt kept stored) (record { answer = cond is_before Greater Less; share = kept; pairs = 0 })
       (compared_from order kept w v))
 
   -- One step, at an entry with the lengths m and n: kb and ka are what the sought word shares with the nearest entries met before and after it, 0 without one.

@@ -20,7 +20,7 @@ use Rattle.rules.proofs.Walks.{looks_up}
 use Rattle.store.specs.declared.memory.Memory.{Memory}
 use Rattle.store.specs.Tables.{Rooted, leaf, node, size, plain}
 use Rattle.store.specs.Stores.{Filled, FilledBy, tree, held, places}
-use Rattle.store.specs.Stores.{entry_of as entryIn}
+use Rattle.store.specs.Stores.{entry_of as entry_in}
 use Rattle.store.specs.Adds.{is_some, unless, add_refusal, list_after, Kept, Added}
 
 -- a tree of places has as many entries as places
@@ -63,7 +63,7 @@ module _ (order : ℕ → ℕ → Ordering) (law : Lawful order) where
     module _ (F : Filled m.table.now (length m.strip.now) m.limits m.top m.count) where
       -- as many entries are held as were counted
       pub held_count : length (held symbol m) ≡ m.count
-      held_count = length_entries (entryIn symbol m) (places m) ∙ F.counted
+      held_count = length_entries (entry_in symbol m) (places m) ∙ F.counted
 
       -- the lookup by steps finds what the held list has
       pub finds : Kept order symbol m → (lookup order e.word 0 0 (tree symbol m)).found ≡ entry_of order e.word (held symbol m)
