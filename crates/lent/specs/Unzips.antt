@@ -49,7 +49,7 @@ with_length side n slot = record {
   tag = slot.tag;
 }
 
--- the table with a child_on hung on a side of a place
+-- the table with a child hung on a side of a place
 abbrev pub hung : List Slot → ℕ → Side → ℕ → List Slot
 hung table p side c = slice_set table p (with_child side c (slot_at table p))
 
