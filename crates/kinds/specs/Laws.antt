@@ -1,4 +1,4 @@
--- Letters and pen elements keep what their kinds owe. A law is proved where a trait is met, and there the proofs of this crate can only be cited from here.
+-- Letters and pen elements keep what their kinds owe. The types that owe these laws can cite, of this crate, only what stands in specs/.
 use Rattle.std.specs.Prelude.{◌≡◌, true}
 use Rattle.std.proofs.Common.{rules, arith}
 use Rattle.kinds.specs.declared.letter.Letter.{Letter}

@@ -40,6 +40,7 @@ impl Limits {
     {
         self.capacity
     }
+
     // Whether a word of so many symbols may stand in a dictionary. Refused: 1 without symbols, 2 above the ceiling.
     pub fn check_word(&self, symbols: usize) -> Result<(), Refusal>
         ensures { refusal_of result ≡ word_refusal self.now symbols }
