@@ -10,8 +10,8 @@ use Rattle.rules.specs.Held.{entry_of}
 use Rattle.rules.specs.Lookups.{met, pairs_of}
 use Rattle.rules.specs.Walks.{Walked, lookup, LawOfLookup}
 use Rattle.rules.proofs.Walks.{lookup_law}
-use Rattle.lent.specs.declared.lookup.Looked.{Looked}
-use Rattle.lent.specs.Entries.{LookedOf, held_of}
+use Rattle.store.specs.declared.lookup.Looked.{Looked}
+use Rattle.store.specs.Entries.{LookedOf, held_of}
 use Rattle.dictionary.specs.declared.dictionary.Dictionary.{Dictionary}
 use Rattle.dictionary.specs.declared.tally.Slip.{Slip}
 use Rattle.dictionary.specs.Dictionaries.{Answer, Kept, LookedUp, billed, held, limits, tree}

@@ -14,10 +14,10 @@ use Rattle.rules.specs.Lookups.{met, pairs_of}
 use Rattle.rules.specs.Trees.{Tree}
 use Rattle.rules.specs.Walks.{lookup, LawOfLookup}
 use Rattle.slots.specs.declared.slot.Slot.{Slot}
-use Rattle.lent.specs.declared.entry.Held.{Held}
-use Rattle.lent.specs.Entries.{held_of}
-use Rattle.lent.specs.Keeping as keeping
-use Rattle.lent.specs.Stores as stores
+use Rattle.store.specs.declared.entry.Held.{Held}
+use Rattle.store.specs.Entries.{held_of}
+use Rattle.store.specs.Keeping as keeping
+use Rattle.store.specs.Stores as stores
 use Rattle.dictionary.specs.declared.dictionary.Dictionary.{Dictionary}
 use Rattle.dictionary.specs.declared.tally.Slip.{Slip}
 

@@ -1,6 +1,6 @@
-ghost use Rattle.lent.specs.Stores.{FilledIn};
+ghost use Rattle.store.specs.Stores.{FilledIn};
 
-use lent::memory::Memory;
+use store::memory::Memory;
 
 mod calls;
 

@@ -4,8 +4,9 @@ use Rattle.limits.specs.declared.bounds.Limits.{Limits}
 use Rattle.rules.specs.Entries.{Entry}
 use Rattle.rules.specs.Trees.{Tree, top}
 use Rattle.rules.specs.Inserts.{inserted_by}
-use Rattle.store.specs.declared.slot.Slot.{Slot}
-use Rattle.store.specs.Tables.{blank, slot_at, Rooted, leaf, node, size, In, Stands, rooted, plain, entry_at, overwritten}
+use Rattle.slots.specs.declared.slot.Slot.{Slot}
+use Rattle.slots.specs.Slots.{blank, unlinked}
+use Rattle.store.specs.Tables.{slot_at, Rooted, leaf, node, size, In, Stands, rooted, plain, entry_at, overwritten}
 use Rattle.store.specs.declared.memory.Memory.{Memory}
 use Rattle.store.specs.Stores.{Filled, FilledBy, HasRoom}
 use Rattle.store.specs.Unzips.{FreeOf, Grown, inserted_at}
@@ -58,7 +59,7 @@ module _ (order : ℕ → ℕ → Ordering) {S : Type 0} (symbol : S → ℕ) (T
   abbrev E₁ : ℕ → Entry
   E₁ = entry_at symbol T₁ s₁ ceiling
 
-  pub in_room : count * ceiling + length word ≤ length s
+  in_room : count * ceiling + length word ≤ length s
   in_room = in_strip count capacity ceiling (length word) (length s) room short F.sound.strip
 
   below : count < length T
@@ -85,7 +86,7 @@ module _ (order : ℕ → ℕ → Ordering) {S : Type 0} (symbol : S → ℕ) (T
   short_as : (p : ℕ) → In p t → (slot_at T₁ p).length ≤ ceiling
   short_as p i = subst (λ (z : Slot). z.length ≤ ceiling) (sym (other p i)) (F.sound.words p i)
 
-  pub free_of : FreeOf T₁ (length s₁) ceiling capacity count (rooted T₁ capacity origin) origin
+  free_of : FreeOf T₁ (length s₁) ceiling capacity count (rooted T₁ capacity origin) origin
   free_of = subst (λ (z : Rooted). FreeOf T₁ (length s₁) ceiling capacity count z origin) (sym read) (record {
     few = F.sound.few;
     room = (let l = length-set T count slot in let r = F.sound.room in omega arith);
@@ -107,7 +108,7 @@ module _ (order : ℕ → ℕ → Ordering) {S : Type 0} (symbol : S → ℕ) (T
       (λ j. record { word = map symbol (take (e j).length (drop (p * ceiling) s₁)); weight = (e j).weight; tag = (e j).tag })
       ∙ (λ j. record { word = map symbol (a j); weight = (slot_at T p).weight; tag = (slot_at T p).tag })
 
-  pub new_word : map symbol word ≡ (E₁ count).word
+  new_word : map symbol word ≡ (E₁ count).word
   new_word =
       sym (ap (map symbol) (read_here (count * ceiling) word s (let r = in_room in omega arith)))
       ∙ ap (λ (n : ℕ). map symbol (take n (drop (count * ceiling) s₁))) (sym (ap (λ (z : Slot). z.length) here ∙ long))
@@ -132,7 +133,7 @@ module _ (order : ℕ → ℕ → Ordering) {S : Type 0} (symbol : S → ℕ) (T
     by_place : (p : ℕ) → In p (inserted_at order E₁ count 0 0 t) → (P : ℕ → Type 0) → (In p t → P p) → P count → P p
     by_place p i P old new = elim (in_inserted order E₁ count 0 0 p t i) [ inl j ↦ old j | inr e ↦ subst P (sym e) new ]
 
-    pub filled : Filled T₂ (length s₁) limits y (suc count)
+    filled : Filled T₂ (length s₁) limits y (suc count)
     filled =
         let words : (p : ℕ) → In p (inserted_at order E₁ count 0 0 t) → (slot_at T₂ p).length ≤ ceiling = λ (p : ℕ) i.
         subst (λ (n : ℕ). n ≤ ceiling) (sym (grown.same.word p)) (by_place p i (λ q. (slot_at T₁ q).length ≤ ceiling) (short_as p) (subst (λ (n : ℕ). n ≤ ceiling) (sym (ap (λ (z : Slot). z.length) here ∙ long)) short)) in
@@ -152,7 +153,7 @@ module _ (order : ℕ → ℕ → Ordering) {S : Type 0} (symbol : S → ℕ) (T
         let c = grown.same.tag p in
         λ j. record { word = map symbol (take (a j) (drop (p * ceiling) s₁)); weight = b j; tag = c j }
 
-    pub tree_is : plain (entry_at symbol T₂ s₁ ceiling) (rooted T₂ capacity y) ≡ inserted_by order (record { word = map symbol word; weight = slot.weight; tag = slot.tag }) 0 0 (plain E t)
+    tree_is : plain (entry_at symbol T₂ s₁ ceiling) (rooted T₂ capacity y) ≡ inserted_by order (record { word = map symbol word; weight = slot.weight; tag = slot.tag }) 0 0 (plain E t)
     tree_is =
         ap (plain (entry_at symbol T₂ s₁ ceiling)) reads
         ∙ plain_as E₁ (entry_at symbol T₂ s₁ ceiling) (inserted_at order E₁ count 0 0 t) (λ p i. same_after p)
@@ -160,23 +161,50 @@ module _ (order : ℕ → ℕ → Ordering) {S : Type 0} (symbol : S → ℕ) (T
         ∙ ap (λ (z : Tree). inserted_by order (E₁ count) 0 0 z) (plain_as E E₁ t same_entry)
         ∙ ap (λ (z : Entry). inserted_by order z 0 0 (plain E t)) new_entry
 
--- the same of memory: the entry e was written to the first free place of m and put into the tree, which gave m'
-pub filled_by : (order : ℕ → ℕ → Ordering) {S : Type 0} (symbol : S → ℕ) (m m' : Memory S) (word : List S) (H : HasRoom word m) (slot : Slot) → slot.length ≡ length word
-    → m'.strip.now ≡ overwritten (m.count * m.limits.ceiling) word m.strip.now → m'.limits ≡ m.limits → m'.count ≡ suc m.count
-    → Grown m.limits.capacity (set m.table.now m.count slot) m.count (rooted (set m.table.now m.count slot) m.limits.capacity m.top)
-    (inserted_at order (entry_at symbol (set m.table.now m.count slot) (overwritten (m.count * m.limits.ceiling) word m.strip.now) m.limits.ceiling) m.count 0 0 (rooted (set m.table.now m.count slot) m.limits.capacity m.top))
-    m'.top m'.table.now
-    → FilledBy symbol order (record { word = map symbol word; weight = slot.weight; tag = slot.tag }) m m'
-filled_by order symbol m m' word H slot long e f g G =
-    let T = m.table.now in
-    let s = m.strip.now in
-    let more = filled order symbol T s m.limits m.top m.count H.filled H.room word H.short slot long m'.top m'.table.now G in
-    let grows = tree_is order symbol T s m.limits m.top m.count H.filled H.room word H.short slot long m'.top m'.table.now G in
-    record {
-      filled = subst (λ (z : List _). Filled m'.table.now (length z) m'.limits m'.top m'.count) (sym e)
-          (subst (λ (l : Limits). Filled m'.table.now (length (overwritten (m.count * m.limits.ceiling) word s)) l m'.top m'.count) (sym f)
-          (subst (λ (n : ℕ). Filled m'.table.now (length (overwritten (m.count * m.limits.ceiling) word s)) m.limits m'.top n) (sym g) more));
-      limits = f;
-      counted = g;
-      tree_by = (λ i. plain (entry_at symbol m'.table.now (e i) (f i).ceiling) (rooted m'.table.now (f i).capacity m'.top)) ∙ grows;
-    }
+-- the word has room in the strip
+pub word_room : {S : Type 0} (m : Memory S) (word : List S) → HasRoom word m → m.count * m.limits.ceiling + length word ≤ length m.strip.now
+word_room m word H = in_strip m.count m.limits.capacity m.limits.ceiling (length word) (length m.strip.now) H.room H.short H.filled.sound.strip
+
+-- the same of memory: an entry is written to the first free place of m and put into the tree, which gives m'
+module _ (order : ℕ → ℕ → Ordering) {S : Type 0} (symbol : S → ℕ) (m : Memory S) (word : List S) (H : HasRoom word m) (weight tag : ℕ) (slot : Slot) (is : slot ≡ unlinked (length word) weight tag) where
+  abbrev place : ℕ
+  place = m.count
+
+  abbrev table₁ : List Slot
+  table₁ = set m.table.now place slot
+
+  abbrev places₁ : Rooted
+  places₁ = rooted table₁ m.limits.capacity m.top
+
+  long : slot.length ≡ length word
+  long = ap (λ (z : Slot). z.length) is
+
+  module _ (strip : List S) (written : strip ≡ overwritten (place * m.limits.ceiling) word m.strip.now) where
+    pub attach_free : FreeOf table₁ (length strip) m.limits.ceiling m.limits.capacity place places₁ m.top
+    attach_free = subst (λ (z : List S). FreeOf table₁ (length z) m.limits.ceiling m.limits.capacity place places₁ m.top) (sym written)
+        (free_of order symbol m.table.now m.strip.now m.limits m.top place H.filled H.room word H.short slot long)
+
+    pub attach_word : map symbol word ≡ (entry_at symbol table₁ strip m.limits.ceiling place).word
+    attach_word = subst (λ (z : List S). map symbol word ≡ (entry_at symbol table₁ z m.limits.ceiling place).word) (sym written)
+        (new_word order symbol m.table.now m.strip.now m.limits m.top place H.filled H.room word H.short slot long)
+
+    pub filled_by : (m' : Memory S) → m'.strip.now ≡ strip → m'.limits ≡ m.limits → m'.count ≡ suc place
+        → Grown m.limits.capacity table₁ place places₁ (inserted_at order (entry_at symbol table₁ strip m.limits.ceiling) place 0 0 places₁) m'.top m'.table.now
+        → FilledBy symbol order (record { word = map symbol word; weight = weight; tag = tag }) m m'
+    filled_by m' e f g G =
+        let T = m.table.now in
+        let s = m.strip.now in
+        let s₁ = overwritten (place * m.limits.ceiling) word s in
+        let G₁ = subst (λ (z : List S). Grown m.limits.capacity table₁ place places₁ (inserted_at order (entry_at symbol table₁ z m.limits.ceiling) place 0 0 places₁) m'.top m'.table.now) written G in
+        let more = filled order symbol T s m.limits m.top place H.filled H.room word H.short slot long m'.top m'.table.now G₁ in
+        let grows = tree_is order symbol T s m.limits m.top place H.filled H.room word H.short slot long m'.top m'.table.now G₁ in
+        let e₁ = e ∙ written in
+        record {
+          filled = subst (λ (z : List S). Filled m'.table.now (length z) m'.limits m'.top m'.count) (sym e₁)
+              (subst (λ (l : Limits). Filled m'.table.now (length s₁) l m'.top m'.count) (sym f)
+              (subst (λ (n : ℕ). Filled m'.table.now (length s₁) m.limits m'.top n) (sym g) more));
+          limits = f;
+          counted = g;
+          tree_by = (λ i. plain (entry_at symbol m'.table.now (e₁ i) (f i).ceiling) (rooted m'.table.now (f i).capacity m'.top)) ∙ grows
+              ∙ ap (λ (z : Slot). inserted_by order (record { word = map symbol word; weight = z.weight; tag = z.tag }) 0 0 (plain (entry_at symbol T s m.limits.ceiling) (rooted T m.limits.capacity m.top))) is;
+        }

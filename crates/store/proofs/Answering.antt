@@ -1,14 +1,16 @@
--- What an add answers and leaves is what the plain list with the limits says.
-use Rattle.std.proofs.Common.{◌≡◌, ℕ, suc, ◌<◌, ◌≤◌, Bool, true, false, cond, eqb, ltb, List, [], ◌∷◌, length, Some, None, Ok, Err, filter, Option, Result, Ordering, sym, refl, ap, ◌∙◌, subst, arith}
+-- What a call answers and leaves is what its rule says of the plain list with the limits.
+use Rattle.std.proofs.Common.{◌≡◌, ℕ, ◌<◌, ◌≤◌, Bool, true, false, cond, ltb, List, [], ◌∷◌, length, is_some, Some, None, Ok, Err, filter, Option, Result, Ordering, sym, refl, ap, ◌∙◌, subst, arith}
 use Rattle.std.specs.Ordering.{is_eq}
 use Rattle.std.proofs.lemmas.List.{length-append}
-use Rattle.std.proofs.lemmas.Bool.{cond-true, cond-false, lt-ltb, le-ltb, true≢false}
+use Rattle.std.proofs.lemmas.Bool.{lt-ltb, le-ltb, true≢false}
 use Rattle.kinds.specs.Orders.{Lawful}
+use Rattle.limits.specs.declared.bounds.Limits.{Limits}
 use Rattle.limits.specs.declared.refusal.Refusal.{Refusal}
-use Rattle.limits.specs.declared.refusal.Refusal.TheVariants.{NoSymbols, AboveCeiling, WordHeld, CapacityReached}
-use Rattle.limits.specs.Refusals.{Told, told}
+use Rattle.limits.specs.declared.refusal.Refusal.TheVariants.{WordHeld, CapacityReached}
+use Rattle.limits.specs.Refusals.{Told, refused, told, word_refusal}
 use Rattle.words.specs.Words.{word_order}
 use Rattle.words.proofs.Orders.{words_lawful}
+use Rattle.rules.specs.Calls.{Outcome, outcome, or_else, add_refusal, added}
 use Rattle.rules.specs.Entries.{Entry}
 use Rattle.rules.specs.Held.{ordered, entry_of, first_of, is_word, with}
 use Rattle.rules.specs.Trees.{entries, TreeOf}
@@ -16,12 +18,12 @@ use Rattle.rules.specs.Walks.{lookup}
 use Rattle.rules.proofs.Inserts.{Lacks}
 use Rattle.rules.proofs.Lists.{ordered_with}
 use Rattle.rules.proofs.Steps.{tree_inserted_by}
-use Rattle.rules.proofs.Walks.{looks_up}
+use Rattle.rules.proofs.Walks.{lookup_law}
 use Rattle.store.specs.declared.memory.Memory.{Memory}
 use Rattle.store.specs.Tables.{Rooted, leaf, node, size, plain}
-use Rattle.store.specs.Stores.{Filled, FilledBy, tree, held, places}
+use Rattle.store.specs.Stores.{FilledBy, FilledIn, tree, held, places}
 use Rattle.store.specs.Stores.{entry_of as entry_in}
-use Rattle.store.specs.Adds.{is_some, unless, add_refusal, list_after, Kept, Added}
+use Rattle.store.specs.Keeping.{Kept, Follows}
 
 -- a tree of places has as many entries as places
 length_entries : (E : ℕ → Entry) (t : Rooted) → length (entries (plain E t)) ≡ size t
@@ -40,6 +42,32 @@ IsAnswer (Err k) = ⊥
 ok_not_err : {n : ℕ} {k : Refusal} → ◌≡◌ {A = Result ℕ Refusal} (Ok n) (Err k) → ⊥
 ok_not_err e = subst IsAnswer e tt
 
+-- as many entries are held as were counted
+pub held_count : {S : Type 0} (symbol : S → ℕ) (m : Memory S) → FilledIn m → length (held symbol m) ≡ m.count
+held_count symbol m F = length_entries (entry_in symbol m) (places m) ∙ F.counted
+
+module _ (order : ℕ → ℕ → Ordering) {S : Type 0} (symbol : S → ℕ) (rule : Limits → List Entry → Outcome) (m : Memory S) where
+  -- a refusal, where the rule has that cause
+  pub refuses : (k : Refusal) (next : List Entry) → (Kept order symbol m → rule m.limits (held symbol m) ≡ outcome (Some (told k)) (held symbol m) next) → Follows order symbol rule m (Err k) m
+  refuses k next f = record {
+    limits = refl;
+    unchanged = λ k' h. refl;
+    answers = λ K. sym (ap (λ (o : Outcome). o.answer) (f K));
+    holds = λ K. sym (ap (λ (o : Outcome). o.list) (f K));
+    kept = λ K. K;
+  }
+
+  -- an answer, where the rule has no cause and the list is the one that it says
+  pub accepts : (m' : Memory S) (n : ℕ) → m'.limits ≡ m.limits → n ≡ length (held symbol m') → (next : List Entry) → (Kept order symbol m → rule m.limits (held symbol m) ≡ outcome None (held symbol m) next)
+      → (Kept order symbol m → held symbol m' ≡ next) → (Kept order symbol m → Kept order symbol m') → Follows order symbol rule m (Ok n) m'
+  accepts m' n same counted next f g kept = record {
+    limits = same;
+    unchanged = λ k h. absurd (ok_not_err h);
+    answers = λ K. ap Ok (counted ∙ ap length (g K)) ∙ sym (ap (λ (o : Outcome). o.answer) (f K));
+    holds = λ K. g K ∙ sym (ap (λ (o : Outcome). o.list) (f K));
+    kept = kept;
+  }
+
 module _ (order : ℕ → ℕ → Ordering) (law : Lawful order) where
   -- a word without an entry is no entry's word
   lacks_of : (w : List ℕ) (es : List Entry) → is_some (entry_of order w es) ≡ false → Lacks w es
@@ -51,73 +79,60 @@ module _ (order : ℕ → ℕ → Ordering) (law : Lawful order) where
       at false f k rest = ((λ g. true≢false (sym (ap is_eq ((words_lawful order law).itself w)) ∙ ap (λ (z : List ℕ). is_eq (word_order order w z)) g ∙ f)), rest k)
 
   module _ {S : Type 0} (symbol : S → ℕ) (e : Entry) (m : Memory S) where
-    pub refuses : (k : Refusal) → (Kept order symbol m → add_refusal order m.limits e (held symbol m) ≡ Some (told k)) → Added order symbol e m (Err k) m
-    refuses k f = record {
-      limits = refl;
-      unchanged = λ k' h. refl;
-      answers = λ K. sym (ap (λ (t : Option Told). unless t (suc (length (held symbol m)))) (f K));
-      holds = λ K. sym (ap (λ (t : Option Told). list_after order t e (held symbol m)) (f K));
-      kept = λ K. K;
-    }
+    abbrev w : List ℕ
+    w = e.word
 
-    module _ (F : Filled m.table.now (length m.strip.now) m.limits m.top m.count) where
-      -- as many entries are held as were counted
-      pub held_count : length (held symbol m) ≡ m.count
-      held_count = length_entries (entry_in symbol m) (places m) ∙ F.counted
+    abbrev es : List Entry
+    es = held symbol m
 
-      -- the lookup by steps finds what the held list has
-      pub finds : Kept order symbol m → (lookup order e.word 0 0 (tree symbol m)).found ≡ entry_of order e.word (held symbol m)
-      finds K = (looks_up order law (held symbol m) (tree symbol m) e.word K.sorted K.tree_of).finds
+    -- the lookup by steps finds what the held list has
+    finds : Kept order symbol m → (lookup order w 0 0 (tree symbol m)).found ≡ entry_of order w es
+    finds K = (lookup_law order law es (tree symbol m) w K.sorted K.tree_of).finds
 
-      -- the four refusals, in their order
-      abbrev w : List ℕ
-      w = e.word
+    -- what is left to ask once the word may stand in a dictionary
+    abbrev cause : Bool → Bool → Option Told
+    cause is_held has_room = cond is_held (Some (refused 3)) (cond has_room None (Some (refused 4)))
 
-      pub no_symbols : eqb (length w) 0 ≡ true → Added order symbol e m (Err NoSymbols) m
-      no_symbols a = refuses NoSymbols (λ K. cond-true (eqb (length w) 0) _ _ a)
+    pub word_refused : (k : Refusal) → word_refusal m.limits (length w) ≡ Some (told k) → Follows order symbol (added order e) m (Err k) m
+    word_refused k c =
+        refuses order symbol (added order e) m k (with order e es) (λ K. ap (λ (t : Option Told). outcome (or_else t (cause (is_some (entry_of order w es)) (ltb (length es) m.limits.capacity))) es (with order e es)) c)
 
-      module _ (a : eqb (length w) 0 ≡ false) where
-        pub above_ceiling : ltb m.limits.ceiling (length w) ≡ true → Added order symbol e m (Err AboveCeiling) m
-        above_ceiling b = refuses AboveCeiling (λ K. cond-false (eqb (length w) 0) _ _ a ∙ cond-true (ltb m.limits.ceiling (length w)) _ _ b)
+    module _ (fits : word_refusal m.limits (length w) ≡ None) where
+      asks : (is_held has_room : Bool) → is_some (entry_of order w es) ≡ is_held → (is_held ≡ false → ltb (length es) m.limits.capacity ≡ has_room) → add_refusal order m.limits e es ≡ cause is_held has_room
+      asks true b c d =
+          ap (λ (t : Option Told). or_else t (cause (is_some (entry_of order w es)) (ltb (length es) m.limits.capacity))) fits
+          ∙ ap (λ (x : Bool). cause x (ltb (length es) m.limits.capacity)) c
+      asks false b c d =
+          ap (λ (t : Option Told). or_else t (cause (is_some (entry_of order w es)) (ltb (length es) m.limits.capacity))) fits
+          ∙ ap (λ (x : Bool). cause x (ltb (length es) m.limits.capacity)) c
+          ∙ ap (cause false) (d refl)
 
-        module _ (b : ltb m.limits.ceiling (length w) ≡ false) where
-          pub word_held : is_some (lookup order w 0 0 (tree symbol m)).found ≡ true → Added order symbol e m (Err WordHeld) m
-          word_held c = refuses WordHeld (λ K.
-              cond-false (eqb (length w) 0) _ _ a ∙ cond-false (ltb m.limits.ceiling (length w)) _ _ b
-              ∙ cond-true (is_some (entry_of order w (held symbol m))) _ _ (ap is_some (sym (finds K)) ∙ c))
+      pub word_held : is_some (lookup order w 0 0 (tree symbol m)).found ≡ true → Follows order symbol (added order e) m (Err WordHeld) m
+      word_held c =
+          refuses order symbol (added order e) m WordHeld (with order e es)
+          (λ K. ap (λ (t : Option Told). outcome t es (with order e es)) (asks true true (ap is_some (sym (finds K)) ∙ c) (λ f. absurd (true≢false f))))
 
-          pub capacity_reached : is_some (lookup order w 0 0 (tree symbol m)).found ≡ false → m.limits.capacity ≤ m.count → Added order symbol e m (Err CapacityReached) m
-          capacity_reached c d = refuses CapacityReached (λ K.
-              cond-false (eqb (length w) 0) _ _ a ∙ cond-false (ltb m.limits.ceiling (length w)) _ _ b
-              ∙ cond-false (is_some (entry_of order w (held symbol m))) _ _ (ap is_some (sym (finds K)) ∙ c)
-              ∙ cond-false (ltb (length (held symbol m)) m.limits.capacity) _ _ (le-ltb (length (held symbol m)) m.limits.capacity (let k = held_count in omega arith)))
-
-      module _ (m' : Memory S) (B : FilledBy symbol order e m m') (n : ℕ) (answer : n ≡ m'.count)
-          (some : eqb (length e.word) 0 ≡ false) (short : ltb m.limits.ceiling (length e.word) ≡ false)
-          (absent : is_some (lookup order e.word 0 0 (tree symbol m)).found ≡ false) (room : m.count < m.limits.capacity) where
-        not_held : Kept order symbol m → is_some (entry_of order e.word (held symbol m)) ≡ false
+      module _ (F : FilledIn m) (absent : is_some (lookup order w 0 0 (tree symbol m)).found ≡ false) where
+        not_held : Kept order symbol m → is_some (entry_of order w es) ≡ false
         not_held K = ap is_some (sym (finds K)) ∙ absent
 
-        accepted : Kept order symbol m → add_refusal order m.limits e (held symbol m) ≡ None
-        accepted K =
-            cond-false (eqb (length e.word) 0) _ _ some
-            ∙ cond-false (ltb m.limits.ceiling (length e.word)) _ _ short
-            ∙ cond-false (is_some (entry_of order e.word (held symbol m))) _ _ (not_held K)
-            ∙ cond-true (ltb (length (held symbol m)) m.limits.capacity) _ _ (lt-ltb (length (held symbol m)) m.limits.capacity (let c = held_count in omega arith))
+        pub capacity_reached : m.limits.capacity ≤ m.count → Follows order symbol (added order e) m (Err CapacityReached) m
+        capacity_reached full =
+            refuses order symbol (added order e) m CapacityReached (with order e es)
+            (λ K. ap (λ (t : Option Told). outcome t es (with order e es)) (asks false false (not_held K) (λ f. le-ltb (length es) m.limits.capacity (let c = held_count symbol m F in omega arith))))
 
-        grows : Kept order symbol m → TreeOf order (with order e (held symbol m)) (tree symbol m')
-        grows K =
-            subst (TreeOf order (with order e (held symbol m))) (sym B.tree_by)
-            (tree_inserted_by order law e (held symbol m) (tree symbol m) K.sorted (lacks_of e.word (held symbol m) (not_held K)) K.tree_of)
+        module _ (room : m.count < m.limits.capacity) (m' : Memory S) (B : FilledBy symbol order e m m') where
+          grows : Kept order symbol m → TreeOf order (with order e es) (tree symbol m')
+          grows K =
+              subst (TreeOf order (with order e es)) (sym B.tree_by)
+              (tree_inserted_by order law e es (tree symbol m) K.sorted (lacks_of w es (not_held K)) K.tree_of)
 
-        pub accepts : Added order symbol e m (Ok n) m'
-        accepts = record {
-          limits = B.limits;
-          unchanged = λ k h. absurd (ok_not_err h);
-          answers = λ K. ap Ok (let a = answer in let b = B.counted in let c = held_count in let d : n ≡ suc (length (held symbol m)) = omega arith in d) ∙ sym (ap (λ (t : Option Told). unless t (suc (length (held symbol m)))) (accepted K));
-          holds = λ K. (grows K).holds ∙ sym (ap (λ (t : Option Told). list_after order t e (held symbol m)) (accepted K));
-          kept = λ K. record {
-            sorted = subst (λ (es : List Entry). ordered order es ≡ true) (sym (grows K).holds) (ordered_with order law e (held symbol m) K.sorted);
-            tree_of = subst (λ (es : List Entry). TreeOf order es (tree symbol m')) (sym (grows K).holds) (grows K);
-          };
-        }
+          pub entry_added : (n : ℕ) → n ≡ m'.count → Follows order symbol (added order e) m (Ok n) m'
+          entry_added n answer =
+              accepts order symbol (added order e) m m' n B.limits (answer ∙ sym (held_count symbol m' B.filled)) (with order e es)
+              (λ K. ap (λ (t : Option Told). outcome t es (with order e es)) (asks false true (not_held K) (λ f. lt-ltb (length es) m.limits.capacity (let c = held_count symbol m F in omega arith))))
+              (λ K. (grows K).holds)
+              (λ K. record {
+                sorted = subst (λ (z : List Entry). ordered order z ≡ true) (sym (grows K).holds) (ordered_with order law e es K.sorted);
+                tree_of = subst (λ (z : List Entry). TreeOf order z (tree symbol m')) (sym (grows K).holds) (grows K);
+              })

@@ -1,10 +1,11 @@
 -- What a write to one side of a slot leaves as it was.
 use Rattle.std.proofs.Common.{◌≡◌, ℕ, ◌<◌, List, length, set, sym, refl, ap, ◌∙◌, subst, inl, inr, length-set, get_or-set_other, get_or-set_same}
 use Rattle.std.proofs.lemmas.Bool.{cases_eq}
-use Rattle.store.specs.declared.slot.Slot.{Slot}
-use Rattle.store.specs.declared.slot.Side.{Side}
-use Rattle.store.specs.declared.slot.Side.TheVariants.{Left, Right}
-use Rattle.store.specs.Tables.{blank, slot_at, Rooted, leaf, node, In, Stands}
+use Rattle.slots.specs.declared.slot.Slot.{Slot}
+use Rattle.slots.specs.declared.slot.Side.{Side}
+use Rattle.slots.specs.declared.slot.Side.TheVariants.{Left, Right}
+use Rattle.slots.specs.Slots.{blank}
+use Rattle.store.specs.Tables.{slot_at, Rooted, leaf, node, In, Stands}
 use Rattle.store.specs.Unzips.{child_on, length_on, with_child, with_length, hung, noted, Same, On}
 
 -- Left is not Right

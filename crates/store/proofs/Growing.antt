@@ -6,10 +6,10 @@ use Rattle.words.specs.declared.comparison.Comparison.{Comparison}
 use Rattle.rules.specs.Entries.{Entry}
 use Rattle.rules.specs.Walks.{step_at}
 use Rattle.rules.specs.Inserts.{is_above}
-use Rattle.store.specs.declared.slot.Slot.{Slot}
-use Rattle.store.specs.declared.slot.Side.{Side}
-use Rattle.store.specs.declared.slot.Side.TheVariants.{Left, Right}
-use Rattle.store.specs.declared.lookup.Shares.{Shares}
+use Rattle.slots.specs.declared.slot.Slot.{Slot}
+use Rattle.slots.specs.declared.slot.Side.{Side}
+use Rattle.slots.specs.declared.slot.Side.TheVariants.{Left, Right}
+use Rattle.slots.specs.declared.compare.Shares.{Shares}
 use Rattle.store.specs.declared.writes.Hook.{Hook}
 use Rattle.store.specs.Tables.{slot_at, Rooted, leaf, node, size, In, Apart, Stands, rooted}
 use Rattle.store.specs.Lookups.{compared_at}

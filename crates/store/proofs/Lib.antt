@@ -11,3 +11,6 @@ pub mod Empty
 pub mod Strips
 pub mod Adding
 pub mod Answering
+pub mod Options
+pub mod Nearing
+pub mod Listing

@@ -7,10 +7,10 @@ use Rattle.rules.specs.Entries.{Entry}
 use Rattle.rules.specs.Walks.{compared, step_at}
 use Rattle.store.specs.declared.memory.Memory.{Memory}
 use Rattle.store.specs.Stores.{TableAlone, entry_of}
-use Rattle.store.specs.declared.slot.Slot.{Slot}
-use Rattle.store.specs.declared.slot.Side.{Side}
-use Rattle.store.specs.declared.slot.Side.TheVariants.{Left, Right}
-use Rattle.store.specs.declared.lookup.Shares.{Shares}
+use Rattle.slots.specs.declared.slot.Slot.{Slot}
+use Rattle.slots.specs.declared.slot.Side.{Side}
+use Rattle.slots.specs.declared.slot.Side.TheVariants.{Left, Right}
+use Rattle.slots.specs.declared.compare.Shares.{Shares}
 use Rattle.store.specs.Tables.{slot_at, entry_at, Rooted, leaf, node, size, In, Apart, Stands}
 use Rattle.store.specs.Lookups.{compared_at}
 use Rattle.store.specs.Unzips.{other, child_on, hung, noted, Same, On, Split, FreeOf, Unzipped, lesser_at, greater_at}

@@ -4,7 +4,7 @@ use mathlib.Core.Logic.{∥∥₁_elim}
 use denote.Struct.Props.{props}
 use native.Mathlib.Bridge.{le_prop}
 use Rattle.limits.specs.declared.bounds.Limits.{Limits}
-use Rattle.store.specs.declared.slot.Slot.{Slot}
+use Rattle.slots.specs.declared.slot.Slot.{Slot}
 use Rattle.store.specs.Tables.{Rooted, leaf, node, size, Apart, Stands, Sound, slot_at, rooted}
 use Rattle.store.specs.Stores.{Filled}
 

@@ -1,8 +1,8 @@
 -- A tree of places by the side on which a walk goes on: u is left behind, and v lies ahead.
 use Rattle.std.proofs.Common.{◌≡◌, ℕ, suc, ◌+◌, ◌<◌, ◌≤◌, List, sym, refl, ap, ◌∙◌, subst, inl, inr, arith}
-use Rattle.store.specs.declared.slot.Slot.{Slot}
-use Rattle.store.specs.declared.slot.Side.{Side}
-use Rattle.store.specs.declared.slot.Side.TheVariants.{Left, Right}
+use Rattle.slots.specs.declared.slot.Slot.{Slot}
+use Rattle.slots.specs.declared.slot.Side.{Side}
+use Rattle.slots.specs.declared.slot.Side.TheVariants.{Left, Right}
 use Rattle.store.specs.Tables.{slot_at, Rooted, node, size, In, Apart, Stands, rooted}
 use Rattle.store.specs.Unzips.{one_on_side, other, child_on, length_on, Same}
 use Rattle.store.proofs.Tables.{read_whole}

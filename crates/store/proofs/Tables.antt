@@ -4,7 +4,7 @@ use Rattle.std.proofs.lemmas.Bool.{lt-ltb, le-ltb}
 use Rattle.limits.specs.Capacity.{ceiling_for, capacity_for}
 use Rattle.rules.specs.Entries.{Entry}
 use Rattle.rules.specs.Trees.{top}
-use Rattle.store.specs.declared.slot.Slot.{Slot}
+use Rattle.slots.specs.declared.slot.Slot.{Slot}
 use Rattle.store.specs.Tables.{Rooted, leaf, node, size, In, Apart, Stands, Sound, slot_at, rooted_at, rooted, plain}
 
 -- an entry's word lies in the strip
@@ -15,6 +15,13 @@ in_strip p capacity ceiling count symbols h k m =
     omega arith
 
 module _ (table : List Slot) (capacity : ℕ) where
+  -- each place of a tree that stands is below the capacity
+  pub in_table : (place p : ℕ) (t : Rooted) → Stands table capacity place t → In p t → p < capacity
+  in_table place p leaf s i = absurd i
+  in_table place p (node l q m n r) s (inl e) = let a = s.0 in let b = s.1 in omega arith
+  in_table place p (node l q m n r) s (inr (inl i)) = in_table (slot_at table place).left p l s.4 i
+  in_table place p (node l q m n r) s (inr (inr i)) = in_table (slot_at table place).right p r s.5 i
+
   -- read deep enough, the tree that stands is what is read
   pub read_whole : (depth place : ℕ) (t : Rooted) → Stands table capacity place t → size t ≤ depth → rooted_at depth table capacity place ≡ t
   read_whole zero place leaf h k = refl

@@ -2,4 +2,6 @@ pub mod Tables
 pub mod Lookups
 pub mod Unzips
 pub mod Stores
-pub mod Adds
+pub mod Entries
+pub mod Neighbours
+pub mod Keeping

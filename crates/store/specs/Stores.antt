@@ -1,17 +1,14 @@
 -- What a store keeps in the memory that it is lent.
-use Rattle.std.specs.Prelude.{◌≡◌, ℕ, suc, ◌<◌, ◌≤◌, cond, List, length, Some, None, Ok, Err, Option, Result, ◌==◌, nat_lt}
+use Rattle.std.specs.Prelude.{◌≡◌, ℕ, suc, ◌+◌, ◌*◌, ◌<◌, ◌≤◌, List, length}
 use Rattle.std.specs.declared.cmp.Ordering.{Ordering}
 use Rattle.limits.specs.declared.bounds.Limits.{Limits}
-use Rattle.limits.specs.declared.refusal.Refusal.{Refusal}
 use Rattle.limits.specs.Capacity.{limits_for}
-use Rattle.limits.specs.Refusals.{Told, refused, told}
 use Rattle.rules.specs.Entries.{Entry}
 use Rattle.rules.specs.Inserts.{inserted_by}
 use Rattle.rules.specs.Trees.{Tree, entries}
-use Rattle.store.specs.declared.slot.Slot.{Slot}
-use Rattle.store.specs.declared.lookup.Walk.{Walk}
+use Rattle.slots.specs.declared.slot.Slot.{Slot}
 use Rattle.store.specs.declared.memory.Memory.{Memory}
-use Rattle.store.specs.Tables.{Rooted, leaf, size, In, rooted, plain, entry_at, Sound}
+use Rattle.store.specs.Tables.{Rooted, leaf, size, In, rooted, plain, slot_at, entry_at, Sound}
 
 -- Sound memory whose entries have the first places.
 pub record Filled (table : List Slot) (symbols : ℕ) (limits : Limits) (top count : ℕ) : Type 0 where
@@ -23,6 +20,15 @@ module _ {S : Type 0} where
   -- the tree of places
   abbrev pub places : Memory S → Rooted
   places m = rooted m.table.now m.limits.capacity m.top
+
+  -- the same of a memory, which a store keeps from call to call
+  abbrev pub FilledIn : Memory S → Type 0
+  FilledIn m = Filled m.table.now (length m.strip.now) m.limits m.top m.count
+
+  -- the place has a slot, and what that says of its word lies in the strip
+  pub record InMemory (m : Memory S) (p : ℕ) : Type 0 where
+    pub slot : p < length m.table.now
+    pub word : p * m.limits.ceiling + (slot_at m.table.now p).length ≤ length m.strip.now
 
   -- opened: the limits are those in force over that memory, which is as it was, and no entry is held
   pub record Opened (table : List Slot) (strip : List S) (ceiling : ℕ) (m : Memory S) : Type 0 where
@@ -57,31 +63,17 @@ module _ {S : Type 0} where
     abbrev pub held : Memory S → List Entry
     held m = entries (tree m)
 
--- a word without symbols is refused with 1, and one above the ceiling with 2
-abbrev pub word_refusal : ℕ → ℕ → Option Told
-word_refusal symbols ceiling = cond (symbols == 0) (Some (refused 1)) (cond (nat_lt ceiling symbols) (Some (refused 2)) None)
-
--- why an answer is a refusal, if it is one
-abbrev pub refusal_of : {A : Type 0} → Result A Refusal → Option Told
-refusal_of (Ok x) = None
-refusal_of (Err r) = Some (told r)
-
--- the pairs that a lookup looked at, none where it is refused
-abbrev pub pairs_of : Result Walk Refusal → ℕ
-pairs_of (Ok x) = x.pairs
-pairs_of (Err r) = 0
-
 -- ---- adding
 
 -- what is to hold of memory so that an entry can be written to its first free place
 pub record HasRoom {S : Type 0} (word : List S) (m : Memory S) : Type 0 where
-  pub filled : Filled m.table.now (length m.strip.now) m.limits m.top m.count
+  pub filled : FilledIn m
   pub room : m.count < m.limits.capacity
   pub short : length word ≤ m.limits.ceiling
 
 -- Memory with one entry more: the limits are as they were, and the tree has that entry, put in by the steps of a lookup.
 pub record FilledBy {S : Type 0} (symbol : S → ℕ) (order : ℕ → ℕ → Ordering) (e : Entry) (m m' : Memory S) : Type 0 where
-  pub filled : Filled m'.table.now (length m'.strip.now) m'.limits m'.top m'.count
+  pub filled : FilledIn m'
   pub limits : m'.limits ≡ m.limits
   pub counted : m'.count ≡ suc m.count
   pub tree_by : tree symbol m' ≡ inserted_by order e 0 0 (tree symbol m)

@@ -2,11 +2,8 @@
 use Rattle.std.specs.Prelude.{◌≡◌, ℕ, zero, suc, ◌+◌, ◌*◌, ◌<◌, ◌≤◌, cond, ◌⊎◌, List, ◌++◌, map, length, take, drop, nat_lt, slice_index_or}
 use Rattle.rules.specs.Entries.{Entry}
 use Rattle.rules.specs.Trees.{Tree, nothing, top}
-use Rattle.store.specs.declared.slot.Slot.{Slot}
-
--- the slot of zeros
-abbrev pub blank : Slot
-blank = record { left = 0; right = 0; left_length = 0; right_length = 0; length = 0; weight = 0; tag = 0 }
+use Rattle.slots.specs.declared.slot.Slot.{Slot}
+use Rattle.slots.specs.Slots.{blank}
 
 -- the slot at a place, a blank one past the table's end
 abbrev pub slot_at : List Slot → ℕ → Slot
@@ -61,10 +58,14 @@ abbrev pub plain : (ℕ → Entry) → Rooted → Tree
 plain entry leaf = nothing
 plain entry (node l p m n r) = top (plain entry l) (entry p) m n (plain entry r)
 
+-- What the strip has of the entry at a place. It has as many symbols for each place as the ceiling says.
+abbrev pub stored_at : {S : Type 0} → List Slot → List S → ℕ → ℕ → List S
+stored_at table strip ceiling p = take (slot_at table p).length (drop (p * ceiling) strip)
+
 module _ {S : Type 0} (symbol : S → ℕ) where
-  -- The word at a place: the strip has as many symbols for each place as the ceiling says.
+  -- the word at a place
   abbrev pub word_at : List Slot → List S → ℕ → ℕ → List ℕ
-  word_at table strip ceiling p = map symbol (take (slot_at table p).length (drop (p * ceiling) strip))
+  word_at table strip ceiling p = map symbol (stored_at table strip ceiling p)
 
   abbrev pub entry_at : List Slot → List S → ℕ → ℕ → Entry
   entry_at table strip ceiling p =

@@ -5,9 +5,9 @@ use Rattle.std.specs.Ordering.{is_gt}
 use Rattle.rules.specs.Entries.{Entry}
 use Rattle.rules.specs.Walks.{step_at}
 use Rattle.rules.specs.Inserts.{is_above}
-use Rattle.store.specs.declared.slot.Slot.{Slot}
-use Rattle.store.specs.declared.slot.Side.{Side}
-use Rattle.store.specs.declared.slot.Side.TheVariants.{Left, Right}
+use Rattle.slots.specs.declared.slot.Slot.{Slot}
+use Rattle.slots.specs.declared.slot.Side.{Side}
+use Rattle.slots.specs.declared.slot.Side.TheVariants.{Left, Right}
 use Rattle.store.specs.declared.writes.Hook.{Hook}
 use Rattle.store.specs.Tables.{slot_at, Rooted, leaf, node, size, In, Apart, Stands}
 

@@ -3,12 +3,12 @@ ghost use Rattle.std.specs.Ordering.{is_gt};
 ghost use Rattle.store.specs.Stores.{TreeAlone, entry_of, places};
 ghost use Rattle.store.specs.Unzips.{FreeOf, Grown, HookIn, inserted_at, seated, seated_top};
 
-use crate::lookup::Shares;
-use crate::memory::{Memory, child, compare_in};
-use crate::slot::{Side, Slot};
+use crate::memory::Memory;
 use crate::unzip::unzip;
 use crate::writes::{Hook, hang, note};
 use kinds::kind::Ordered;
+use slots::compare::Shares;
+use slots::slot::{Side, Slot};
 use std::cmp::Ordering;
 use words::comparer::Comparer;
 
@@ -59,7 +59,7 @@ pub(crate) fn attach<S: Ordered, C: Comparer<S>>(
         after: 0,
     };
     while (at as usize) < limits.capacity() {
-        let step = compare_in(memory, at, word, shares, comparer);
+        let step = memory.compare(at, word, shares, comparer);
         if !stays_above(memory.table[at as usize].weight, weight, step.answer) {
             break;
         }
@@ -77,7 +77,7 @@ pub(crate) fn attach<S: Ordered, C: Comparer<S>>(
             }
         };
         above = Some(hook);
-        at = child(memory, hook);
+        at = memory.child(hook);
     }
     unzip(memory, at, word, shares, place, comparer);
     note(

@@ -1,11 +1,12 @@
-//! The tree of a dictionary in lent memory: the slots of the entry table, the words of the strip, the lookup over both, and adding an entry.
-//! A walk needs memory that is `Sound`, so it is private here; `Store` keeps that in its type, and its calls ask nothing.
+//! The tree of a dictionary in lent memory: the entry table and the words of the strip, the lookup over both, adding an entry, and a word's neighbours.
+//! A walk needs memory in which a tree of places stands. `Store` keeps that in its type, and its calls ask nothing.
 #![tactic(auto)]
 
 mod attach;
+pub mod entry;
 pub mod lookup;
 pub mod memory;
-pub mod slot;
+mod neighbour;
 pub mod store;
 mod strip;
 mod unzip;

@@ -1,17 +1,21 @@
-ghost use Rattle.std.specs.Prelude.{◌≡◌, ◌+◌, ◌*◌, ◌^◌, ◌<◌, ◌≤◌, map, length};
-ghost use Rattle.store.specs.Tables.{entry_at, slot_at};
+ghost use Rattle.std.specs.Prelude.{◌≡◌, ◌+◌, ◌^◌, ◌<◌, map, length};
+ghost use Rattle.store.specs.Tables.{slot_at, stored_at};
+ghost use Rattle.store.specs.Entries.{held_at, listed_at, listing};
+ghost use Rattle.store.specs.Stores.{InMemory, entry_of};
 ghost use Rattle.store.specs.Lookups.{compared_at};
 ghost use Rattle.store.specs.Unzips.{child_on};
 
-use crate::lookup::{Shares, compare_at};
-use crate::slot::{Side, Slot};
+use crate::entry::{Entry, Held};
 use crate::writes::Hook;
 use kinds::kind::Ordered;
 use limits::bounds::Limits;
+use slots::compare::{Shares, compare_met};
+use slots::slot::{Side, Slot};
 use words::comparer::Comparer;
 use words::comparison::Comparison;
 
 // The memory that a dictionary is lent, and how far it is filled.
+// It is all the memory that there is, so children are places in the table and words are parts of the strip, and neither is a box of its own.
 #[derive(Drop)]
 pub struct Memory<'a, S> {
     // the entry table
@@ -25,38 +29,70 @@ pub struct Memory<'a, S> {
     pub(crate) count: u16,
 }
 
-// Compares a sought word with the entry met at a place, as `compare_at` does.
-pub(crate) fn compare_in<S: Ordered, C: Comparer<S>>(
-    memory: &Memory<S>,
-    place: u16,
-    word: &[S],
-    shares: Shares,
-    comparer: &mut C,
-) -> Comparison
-    requires slot { place < length memory.now.table.now }
-    requires word { place * memory.now.limits.ceiling + (slot_at memory.now.table.now place).length ≤ length memory.now.strip.now }
-    ensures value { result ≡ compared_at S.Ordered.order (map S.Ordered.symbol word.now) (entry_at S.Ordered.symbol memory.now.table.now memory.now.strip.now memory.now.limits.ceiling) memory.now.table.now place shares }
-    ensures asked { C.Comparer.asked comparer.old + result.pairs < 2 ^ 32 → C.Comparer.asked comparer.new ≡ C.Comparer.asked comparer.old + result.pairs }
-{
-    compare_at(
-        memory.table,
-        memory.strip,
-        memory.limits,
-        place,
-        word,
-        shares,
-        comparer,
-    )
+impl<'a, S> Memory<'a, S> {
+    // The child on a hook.
+    pub(crate) fn child(&self, hook: Hook) -> u16
+        requires { hook.place < length self.now.table.now }
+        ensures { result ≡ child_on hook.side (slot_at self.now.table.now hook.place) }
+    {
+        let slot = self.table[hook.place as usize];
+        match hook.side {
+            Side::Left => slot.left,
+            Side::Right => slot.right,
+        }
+    }
+
+    // The word of the entry at a place.
+    fn word(&self, place: u16) -> &[S]
+        requires { InMemory self.now place }
+        ensures { result.now ≡ stored_at self.now.table.now self.now.strip.now self.now.limits.ceiling place }
+    {
+        let start = place as usize * self.limits.ceiling();
+        &self.strip[start..start + self.table[place as usize].length as usize]
+    }
+
+    // The weight and the tag of the entry at a place.
+    pub(crate) fn held(&self, place: u16) -> Held
+        requires { place < length self.now.table.now }
+        ensures { result ≡ held_at self.now.table.now place }
+    {
+        let slot = self.table[place as usize];
+        Held {
+            weight: slot.weight,
+            tag: slot.tag,
+        }
+    }
 }
 
-// The child on a hook.
-pub(crate) fn child<S>(memory: &Memory<S>, hook: Hook) -> u16
-    requires { hook.place < length memory.now.table.now }
-    ensures { result ≡ child_on hook.side (slot_at memory.now.table.now hook.place) }
-{
-    let slot = memory.table[hook.place as usize];
-    match hook.side {
-        Side::Left => slot.left,
-        Side::Right => slot.right,
+impl<'a, S: Ordered> Memory<'a, S> {
+    // The entry at a place.
+    pub(crate) fn entry(&self, place: u16) -> Entry<'_, S>
+        requires { InMemory self.now place }
+        ensures { listing S.Ordered.symbol result ≡ listed_at S.Ordered.symbol self.now place }
+    {
+        let slot = self.table[place as usize];
+        Entry {
+            word: self.word(place),
+            weight: slot.weight,
+            tag: slot.tag,
+            left_length: slot.left_length,
+            right_length: slot.right_length,
+        }
+    }
+
+    // Compares a sought word with the entry met at a place.
+    pub(crate) fn compare<C: Comparer<S>>(
+        &self,
+        place: u16,
+        word: &[S],
+        shares: Shares,
+        comparer: &mut C,
+    ) -> Comparison
+        requires { InMemory self.now place }
+        ensures value { result ≡ compared_at S.Ordered.order (map S.Ordered.symbol word.now) (entry_of S.Ordered.symbol self.now) self.now.table.now place shares }
+        ensures asked { C.Comparer.asked comparer.old + result.pairs < 2 ^ 32 → C.Comparer.asked comparer.new ≡ C.Comparer.asked comparer.old + result.pairs }
+    {
+        let slot = self.table[place as usize];
+        compare_met(&slot, self.word(place), word, shares, comparer)
     }
 }

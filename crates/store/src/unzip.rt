@@ -3,15 +3,12 @@ ghost use Rattle.store.specs.Stores.{TableAlone, entry_of};
 ghost use Rattle.store.specs.Tables.{rooted};
 ghost use Rattle.store.specs.Unzips.{FreeOf, Unzipped};
 
-use crate::lookup::Shares;
-use crate::memory::{Memory, child, compare_in};
-use crate::slot::Side;
+use crate::memory::Memory;
 use crate::writes::{Hook, hang, note};
 use kinds::kind::Ordered;
+use slots::compare::Shares;
+use slots::slot::{NONE, Side};
 use words::comparer::Comparer;
-
-// No place: every capacity is less.
-pub(crate) const NONE: u16 = u16::MAX;
 
 // Parts the tree below `top` along the way to a word, and hangs the two parts on a place outside of the tree: what comes before the word on its left, the rest on its right.
 // Each entry of the way gets the word for its shares ancestor on the side of the word, so what it shares with the word is noted there.
@@ -41,14 +38,14 @@ pub(crate) fn unzip<S: Ordered, C: Comparer<S>>(
         side: Side::Right,
     };
     while (at as usize) < limits.capacity() {
-        let step = compare_in(memory, at, word, shares, comparer);
+        let step = memory.compare(at, word, shares, comparer);
         let share = step.share as u16;
         if step.answer.is_gt() {
             let right = Hook {
                 place: at,
                 side: Side::Right,
             };
-            let next = child(memory, right);
+            let next = memory.child(right);
             hang(memory.table, low, at);
             note(memory.table, right, share);
             low = right;
@@ -59,7 +56,7 @@ pub(crate) fn unzip<S: Ordered, C: Comparer<S>>(
                 place: at,
                 side: Side::Left,
             };
-            let next = child(memory, left);
+            let next = memory.child(left);
             hang(memory.table, high, at);
             note(memory.table, left, share);
             high = left;

@@ -1,7 +1,7 @@
 ghost use Rattle.std.specs.Prelude.{◌≡◌, ◌<◌, length};
 ghost use Rattle.store.specs.Unzips.{hung, noted};
 
-use crate::slot::{Side, Slot};
+use slots::slot::{Side, Slot};
 
 // A side of a place, where a tree can be hung.
 #[derive(Clone, Copy)]

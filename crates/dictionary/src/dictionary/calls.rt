@@ -1,14 +1,14 @@
 ghost use Rattle.std.specs.Prelude.{◌≡◌, ◌+◌, ◌^◌, ◌<◌, map, length};
 ghost use Rattle.std.specs.Option.{option_map};
 ghost use Rattle.rules.specs.Held.{nearest_after};
-ghost use Rattle.lent.specs.Entries.{listed_in, listing};
+ghost use Rattle.store.specs.Entries.{listed_in, listing};
 ghost use Rattle.dictionary.specs.Dictionaries.{Added, Kept, LookedUp, Opened, SameTree, held, limits, pairs_on};
 
 use super::Dictionary;
 use crate::tally::Slip;
 use kinds::kind::Ordered;
-use lent::entry::{Entry, Held};
-use lent::memory::Memory;
+use store::entry::{Entry, Held};
+use store::memory::Memory;
 use limits::bounds::Limits;
 use limits::refusal::Refusal;
 use slots::slot::Slot;

@@ -1,7 +1,7 @@
 use Rattle.std.proofs.Common.{◌+◌, ◌*◌, ◌≤◌, List, map, length, sym, refl, ap, ◌∙◌, subst, arith}
 use Rattle.std.proofs.lemmas.List.{length-map}
 use Rattle.limits.specs.declared.bounds.Limits.{Limits}
-use Rattle.store.specs.declared.slot.Slot.{Slot}
+use Rattle.slots.specs.declared.slot.Slot.{Slot}
 use Rattle.store.specs.Stores.{entry_of}
 use Rattle.store.specs.Tables.{rooted, slot_at}
 use Rattle.store.specs.Unzips.{hung, Unzipped}

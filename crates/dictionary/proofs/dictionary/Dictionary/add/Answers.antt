@@ -1,4 +1,4 @@
-use Rattle.lent.proofs.Props.{filled_out}
+use Rattle.store.proofs.Props.{filled_out}
 use Rattle.dictionary.proofs.dictionary.Dictionary.add.Goals as goal
 
 pub add-requires : goal.add-requires

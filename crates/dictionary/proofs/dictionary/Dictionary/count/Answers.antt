@@ -1,6 +1,6 @@
 use Rattle.std.proofs.Common.{sym, ◌∙◌}
-use Rattle.lent.proofs.Answering.{held_count}
-use Rattle.lent.proofs.Props.{filled_out}
+use Rattle.store.proofs.Answering.{held_count}
+use Rattle.store.proofs.Props.{filled_out}
 use Rattle.dictionary.proofs.dictionary.Dictionary.count.Goals as goal
 
 pub returns : goal.returns

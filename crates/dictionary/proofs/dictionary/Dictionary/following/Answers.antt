@@ -1,4 +1,4 @@
-use Rattle.lent.proofs.Props.{filled_out}
+use Rattle.store.proofs.Props.{filled_out}
 use Rattle.dictionary.proofs.dictionary.Dictionary.following.Goals as goal
 
 pub following-requires : goal.following-requires

@@ -3,7 +3,7 @@ use Rattle.std.proofs.lemmas.List.{length-map}
 use Rattle.std.proofs.lemmas.Result.{err_from_is_err_and}
 use Rattle.limits.specs.declared.refusal.Refusal.{Refusal}
 use Rattle.limits.specs.Refusals.{word_refusal}
-use Rattle.lent.proofs.Props.{filled_out}
+use Rattle.store.proofs.Props.{filled_out}
 use Rattle.dictionary.specs.declared.tally.Slip.{Slip}
 use Rattle.dictionary.specs.Dictionaries.{Answer, LookedUp, limits, pairs_on}
 use Rattle.dictionary.proofs.Lookups.{refused, answered_with}

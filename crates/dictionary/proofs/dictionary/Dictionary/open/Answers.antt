@@ -1,4 +1,4 @@
-use Rattle.lent.proofs.Empty.{none_held}
+use Rattle.store.proofs.Empty.{none_held}
 use Rattle.dictionary.proofs.Trees.{same_tree}
 use Rattle.dictionary.proofs.dictionary.Dictionary.open.Goals as goal
 
