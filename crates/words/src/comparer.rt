@@ -1,4 +1,5 @@
-ghost use Rattle.std.specs.Prelude.{◌≡◌, ℕ, ◌+◌, ◌^◌, ◌<◌};
+ghost use Rattle.std.specs.Prelude.{◌≡◌, ℕ};
+ghost use Rattle.words.specs.Counting.{RaisedBy};
 
 use kinds::kind::Ordered;
 use std::cmp::Ordering;
@@ -11,7 +12,7 @@ pub trait Comparer<S: Ordered> {
     // Answers as the kind orders, and counts the asking while the count fits 32 bits.
     fn ask(&mut self, a: &S, b: &S) -> Ordering
         ensures answers { result ≡ S.Ordered.order (S.Ordered.symbol a.now) (S.Ordered.symbol b.now) }
-        ensures counts { asked self.old + 1 < 2 ^ 32 → asked self.new ≡ asked self.old + 1 };
+        ensures counts { RaisedBy 1 (asked self.old) (asked self.new) };
 }
 
 // A comparer that counts and does nothing else.

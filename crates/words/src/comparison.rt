@@ -1,5 +1,6 @@
-ghost use Rattle.std.specs.Prelude.{◌≡◌, ℕ, ◌+◌, ◌^◌, ◌<◌, map};
+ghost use Rattle.std.specs.Prelude.{◌≡◌, map};
 ghost use Rattle.words.specs.Comparisons.{AsFromTheStart, Tells, compared_from};
+ghost use Rattle.words.specs.Counting.{RaisedBy};
 
 use crate::comparer::{Comparer, Counter};
 use kinds::kind::Ordered;
@@ -26,7 +27,7 @@ pub fn compare_from<S: Ordered, C: Comparer<S>>(
 ) -> Comparison
     ensures value { result ≡ compared_from S.Ordered.order from (map S.Ordered.symbol a.now) (map S.Ordered.symbol b.now) }
     ensures whole { AsFromTheStart S.Ordered.order from (map S.Ordered.symbol a.now) (map S.Ordered.symbol b.now) result }
-    ensures asked { C.Comparer.asked comparer.old + result.pairs < 2 ^ 32 → C.Comparer.asked comparer.new ≡ C.Comparer.asked comparer.old + result.pairs }
+    ensures asked { RaisedBy result.pairs (C.Comparer.asked comparer.old) (C.Comparer.asked comparer.new) }
 {
     let end = a.len().min(b.len());
     let start = from.min(end);
