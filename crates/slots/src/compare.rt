@@ -1,6 +1,7 @@
 ghost use Rattle.std.specs.Prelude.{◌≡◌, ◌+◌, ◌^◌, ◌<◌, map};
 ghost use Rattle.rules.specs.Walks.{compared};
 ghost use Rattle.slots.specs.Slots.{compared_with};
+ghost use Rattle.words.specs.Counting.{RaisedBy};
 
 use crate::slot::Slot;
 use kinds::kind::Ordered;
@@ -9,7 +10,7 @@ use words::comparer::Comparer;
 use words::comparison::{Comparison, compare_from};
 
 // What a sought word shares with the nearest entries met before and after it, 0 without one.
-#[derive(Clone, Copy)]
+#[derive(Clone, Copy, Debug, PartialEq, Eq)]
 pub struct Shares {
     pub before: usize,
     pub after: usize,
@@ -26,30 +27,25 @@ fn compare_by_lengths<S: Ordered, C: Comparer<S>>(
     comparer: &mut C,
 ) -> Comparison
     ensures value { result ≡ compared S.Ordered.order (map S.Ordered.symbol word.now) (map S.Ordered.symbol held.now) is_before kept stored }
-    ensures asked { C.Comparer.asked comparer.old + result.pairs < 2 ^ 32 → C.Comparer.asked comparer.new ≡ C.Comparer.asked comparer.old + result.pairs }
+    ensures asked { RaisedBy result.pairs (C.Comparer.asked comparer.old) (C.Comparer.asked comparer.new) }
 {
-    if stored < kept {
-        Comparison {
-            answer: if is_before {
-                Ordering::Less
-            } else {
-                Ordering::Greater
-            },
+    let nearer = if is_before {
+        Ordering::Less
+    } else {
+        Ordering::Greater
+    };
+    match stored.cmp(&kept) {
+        Ordering::Less => Comparison {
+            answer: nearer,
             share: stored,
             pairs: 0,
-        }
-    } else if kept < stored {
-        Comparison {
-            answer: if is_before {
-                Ordering::Greater
-            } else {
-                Ordering::Less
-            },
+        },
+        Ordering::Equal => compare_from(word, held, kept, comparer),
+        Ordering::Greater => Comparison {
+            answer: nearer.reverse(),
             share: kept,
             pairs: 0,
-        }
-    } else {
-        compare_from(word, held, kept, comparer)
+        },
     }
 }
 
@@ -63,7 +59,7 @@ pub fn compare_met<S: Ordered, C: Comparer<S>>(
     comparer: &mut C,
 ) -> Comparison
     ensures value { result ≡ compared_with S.Ordered.order (map S.Ordered.symbol word.now) (map S.Ordered.symbol held.now) slot.now shares }
-    ensures asked { C.Comparer.asked comparer.old + result.pairs < 2 ^ 32 → C.Comparer.asked comparer.new ≡ C.Comparer.asked comparer.old + result.pairs }
+    ensures asked { RaisedBy result.pairs (C.Comparer.asked comparer.old) (C.Comparer.asked comparer.new) }
 {
     let is_before = shares.after < shares.before;
     let kept = shares.before.max(shares.after);

@@ -5,16 +5,19 @@ use Rattle.rules.specs.Entries.{Entry}
 use Rattle.rules.specs.Walks.{turned, Walked, after, lookup}
 use Rattle.slots.specs.declared.compare.Shares.{Shares}
 use Rattle.slots.specs.declared.slot.Slot.{Slot}
-use Rattle.store.specs.Lookups.{compared_at, WalkOf}
+use Rattle.store.specs.Lookups.{compared_at, shares_at_end, WalkOf}
 use Rattle.store.specs.Tables.{size, In, Stands, slot_at, rooted, plain}
 use Rattle.store.proofs.Bounds.{Within, compared_within}
 use Rattle.store.proofs.Tables.{Turn, turn, none}
 
 -- the place where a walk starts, and what it goes by
 module _ (order : ℕ → ℕ → Ordering) (w : List ℕ) (entry : ℕ → Entry) (table : List Slot) (capacity origin : ℕ) where
-  -- what a lookup comes to from a place on
+  -- what a lookup comes to from a place on, and what it keeps at its end
   abbrev walked : ℕ → Shares → Walked
   walked at k = lookup order w k.before k.after (plain entry (rooted table capacity at))
+
+  abbrev ended : ℕ → Shares → Shares
+  ended at k = shares_at_end order w k.before k.after (plain entry (rooted table capacity at))
 
   abbrev begun : Shares
   begun = record { before = 0; after = 0 }
@@ -30,6 +33,7 @@ module _ (order : ℕ → ℕ → Ordering) (w : List ℕ) (entry : ℕ → Entr
     pub many : length (walked origin begun).way ≡ met + length (walked at k).way
     pub looks : (walked origin begun).pairs ≡ pairs + (walked at k).pairs
     pub finds : (walked origin begun).found ≡ (walked at k).found
+    pub ends : ended origin begun ≡ ended at k
 
   pub begin : Stands table capacity origin (rooted table capacity origin) → size (rooted table capacity origin) ≤ capacity → Walking origin begun 0 0
   begin s k = record {
@@ -42,6 +46,7 @@ module _ (order : ℕ → ℕ → Ordering) (w : List ℕ) (entry : ℕ → Entr
     many = omega arith;
     looks = omega arith;
     finds = refl;
+    ends = refl;
   }
 
 module _ {order : ℕ → ℕ → Ordering} {w : List ℕ} {entry : ℕ → Entry} {table : List Slot} {capacity origin at : ℕ} {k : Shares} {met pairs : ℕ} (h : Walking order w entry table capacity origin at k met pairs) where
@@ -64,13 +69,20 @@ module _ {order : ℕ → ℕ → Ordering} {w : List ℕ} {entry : ℕ → Entr
           (walked order w entry table capacity origin (slot_at table at).right (record { before = c.share; after = k.after })))
       walked_by = rw (here_turn.tree, e)
 
+      ended_by : ended order w entry table capacity origin at k ≡ turned c.answer
+          (ended order w entry table capacity origin (slot_at table at).left (record { before = k.before; after = c.share }))
+          k
+          (ended order w entry table capacity origin (slot_at table at).right (record { before = c.share; after = k.after }))
+      ended_by = rw (here_turn.tree, e)
+
       -- one entry more is met, and the walk goes on at a place below
       go_on : length w ≤ 1024 → (next : ℕ) (j : Shares)
           → Stands table capacity next (rooted table capacity next) → size (rooted table capacity next) < size (rooted table capacity at) → ((p : ℕ) → In p (rooted table capacity next) → In p (rooted table capacity at))
           → j.before ≤ length w → j.after ≤ length w → c.pairs ≤ length w
           → walked order w entry table capacity origin at k ≡ after (entry at) c.pairs (walked order w entry table capacity origin next j)
+          → ended order w entry table capacity origin at k ≡ ended order w entry table capacity origin next j
           → Walking order w entry table capacity origin next j (met + 1) (pairs + c.pairs)
-      go_on short next j stands smaller inside b a few v =
+      go_on short next j stands smaller inside b a few v y =
           let m = ap (λ (z : Walked). length z.way) v in
           let q = ap (λ (z : Walked). z.pairs) v in
           record {
@@ -83,6 +95,7 @@ module _ {order : ℕ → ℕ → Ordering} {w : List ℕ} {entry : ℕ → Entr
             many = omega arith;
             looks = omega arith;
             finds = h.finds ∙ ap (λ (z : Walked). z.found) v;
+            ends = h.ends ∙ y;
           }
 
       -- to the child on a side: what is left of the walk is less
@@ -94,19 +107,20 @@ module _ {order : ℕ → ℕ → Ordering} {w : List ℕ} {entry : ℕ → Entr
           let t = here_turn in
           let f : Within (length w) c = rw e within in
           let j : Shares = record { before = k.before; after = c.share } in
-          subst (λ (z : ℕ). Going z j) (sym same) (go_on short (slot_at table at).left j t.stands_left t.smaller_left t.in_left h.near_before f.share f.pairs (rw a at walked_by), t.smaller_left)
+          subst (λ (z : ℕ). Going z j) (sym same) (go_on short (slot_at table at).left j t.stands_left t.smaller_left t.in_left h.near_before f.share f.pairs (rw a at walked_by) (rw a at ended_by), t.smaller_left)
 
       pub go_right : length w ≤ 1024 → c.answer ≡ Greater → (next : ℕ) → next ≡ (slot_at table at).right → Going next (record { before = c.share; after = k.after })
       go_right short a next same =
           let t = here_turn in
           let f : Within (length w) c = rw e within in
           let j : Shares = record { before = c.share; after = k.after } in
-          subst (λ (z : ℕ). Going z j) (sym same) (go_on short (slot_at table at).right j t.stands_right t.smaller_right t.in_right f.share h.near_after f.pairs (rw a at walked_by), t.smaller_right)
+          subst (λ (z : ℕ). Going z j) (sym same) (go_on short (slot_at table at).right j t.stands_right t.smaller_right t.in_right f.share h.near_after f.pairs (rw a at walked_by) (rw a at ended_by), t.smaller_right)
 
       -- the walk ends at the word's own entry
-      pub found_here : c.answer ≡ Equal → WalkOf order w entry (rooted table capacity origin) (record { found = Some at; met = met + 1; pairs = pairs + c.pairs })
+      pub found_here : c.answer ≡ Equal → WalkOf order w entry (rooted table capacity origin) (record { found = Some at; met = met + 1; pairs = pairs + c.pairs; shares = k })
       found_here a =
           let v : walked order w entry table capacity origin at k ≡ record { way = entry at ∷ []; pairs = c.pairs + 0; found = Some (entry at) } = rw a at walked_by in
+          let y : ended order w entry table capacity origin at k ≡ k = rw a at ended_by in
           let m = ap (λ (z : Walked). length z.way) v in
           let q = ap (λ (z : Walked). z.pairs) v in
           record {
@@ -114,13 +128,15 @@ module _ {order : ℕ → ℕ → Ordering} {w : List ℕ} {entry : ℕ → Entr
             pairs = omega arith;
             found = sym (h.finds ∙ ap (λ (z : Walked). z.found) v);
             held = λ p i. (let f : p ≡ at = cc in rw f inside_here);
+            shares = sym (h.ends ∙ y);
           }
 
   -- the walk ends where no entry stands
-  pub not_found : capacity ≤ at → WalkOf order w entry (rooted table capacity origin) (record { found = None; met = met; pairs = pairs })
+  pub not_found : capacity ≤ at → WalkOf order w entry (rooted table capacity origin) (record { found = None; met = met; pairs = pairs; shares = k })
   not_found far =
       let e = none table capacity at far in
       let v : walked order w entry table capacity origin at k ≡ record { way = []; pairs = 0; found = None } = rw e in
+      let y : ended order w entry table capacity origin at k ≡ k = rw e in
       let m = ap (λ (z : Walked). length z.way) v in
       let q = ap (λ (z : Walked). z.pairs) v in
       record {
@@ -128,4 +144,5 @@ module _ {order : ℕ → ℕ → Ordering} {w : List ℕ} {entry : ℕ → Entr
         pairs = omega arith;
         found = sym (h.finds ∙ ap (λ (z : Walked). z.found) v);
         held = λ p i. (let z : ◌≡◌ {A = ℕ} 0 1 = cc in absurd (let f : ⊥ = omega arith in f));
+        shares = sym (h.ends ∙ y);
       }

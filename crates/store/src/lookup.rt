@@ -1,6 +1,7 @@
 ghost use Rattle.std.specs.Prelude.{◌≡◌, ◌+◌, ◌^◌, ◌<◌, ◌≤◌, map, length};
 ghost use Rattle.store.specs.Stores.{entry_of, places};
 ghost use Rattle.store.specs.Lookups.{WalkOf};
+ghost use Rattle.words.specs.Counting.{RaisedBy};
 
 use crate::entry::Held;
 use crate::store::Store;
@@ -37,7 +38,7 @@ impl<'a, S: Ordered> Store<'a, S> {
     pub(crate) fn find<C: Comparer<S>>(&self, word: &[S], comparer: &mut C) -> Walk
         requires { length word.now ≤ 1024 }
         ensures walks { WalkOf S.Ordered.order (map S.Ordered.symbol word.now) (entry_of S.Ordered.symbol self.now.memory) (places self.now.memory) result }
-        ensures asked { C.Comparer.asked comparer.old + result.pairs < 2 ^ 32 → C.Comparer.asked comparer.new ≡ C.Comparer.asked comparer.old + result.pairs }
+        ensures asked { RaisedBy result.pairs (C.Comparer.asked comparer.old) (C.Comparer.asked comparer.new) }
     {
         let memory = &self.memory;
         let capacity = memory.limits.capacity();

@@ -1,9 +1,11 @@
-ghost use Rattle.std.specs.Prelude.{◌≡◌, ◌+◌, ◌^◌, ◌<◌, map, length};
+ghost use Rattle.std.specs.Prelude.{◌≡◌, ℕ, ◌<◌, map, length, Some};
+ghost use Rattle.std.specs.Option.{option_map};
 ghost use Rattle.store.specs.Tables.{slot_at, stored_at};
 ghost use Rattle.store.specs.Entries.{held_at, listed_at, listing};
 ghost use Rattle.store.specs.Stores.{InMemory, entry_of};
 ghost use Rattle.store.specs.Lookups.{compared_at};
 ghost use Rattle.store.specs.Unzips.{child_on};
+ghost use Rattle.words.specs.Counting.{RaisedBy};
 
 use crate::entry::{Entry, Held};
 use crate::writes::Hook;
@@ -51,16 +53,16 @@ impl<'a, S> Memory<'a, S> {
         &self.strip[start..start + self.table[place as usize].length as usize]
     }
 
-    // The weight and the tag of the entry at a place.
-    pub(crate) fn held(&self, place: u16) -> Held
-        requires { place < length self.now.table.now }
-        ensures { result ≡ held_at self.now.table.now place }
+    // The weight and the tag of the entry at the place that was found.
+    pub(crate) fn held(&self, found: Option<u16>) -> Option<Held>
+        requires { (p : ℕ) → found ≡ Some p → p < length self.now.table.now }
+        ensures { result ≡ option_map (held_at self.now.table.now) found }
     {
-        let slot = self.table[place as usize];
-        Held {
+        let slot = self.table[found? as usize];
+        Some(Held {
             weight: slot.weight,
             tag: slot.tag,
-        }
+        })
     }
 }
 
@@ -90,7 +92,7 @@ impl<'a, S: Ordered> Memory<'a, S> {
     ) -> Comparison
         requires { InMemory self.now place }
         ensures value { result ≡ compared_at S.Ordered.order (map S.Ordered.symbol word.now) (entry_of S.Ordered.symbol self.now) self.now.table.now place shares }
-        ensures asked { C.Comparer.asked comparer.old + result.pairs < 2 ^ 32 → C.Comparer.asked comparer.new ≡ C.Comparer.asked comparer.old + result.pairs }
+        ensures asked { RaisedBy result.pairs (C.Comparer.asked comparer.old) (C.Comparer.asked comparer.new) }
     {
         let slot = self.table[place as usize];
         compare_met(&slot, self.word(place), word, shares, comparer)

@@ -11,6 +11,7 @@ ghost use Rattle.store.specs.Keeping.{Follows, Kept};
 ghost use Rattle.store.specs.Lookups.{WalkOf, pairs_walked};
 ghost use Rattle.store.specs.Neighbours.{nearest as nearest_entry};
 ghost use Rattle.store.specs.Stores.{FilledBy, FilledIn, HasRoom, Opened, entry_of, held, places, tree};
+ghost use Rattle.words.specs.Counting.{RaisedBy};
 
 use crate::attach::attach;
 use crate::entry::Entry;
@@ -66,7 +67,7 @@ impl<'a, S: Ordered> Store<'a, S> {
     pub fn walk<C: Comparer<S>>(&self, word: &[S], comparer: &mut C) -> Result<Walk, Refusal>
         ensures refused { refusal_of result ≡ word_refusal self.now.memory.limits (length word.now) }
         ensures walked { (x : Walk) → result ≡ Ok x → WalkOf S.Ordered.order (map S.Ordered.symbol word.now) (entry_of S.Ordered.symbol self.now.memory) (places self.now.memory) x }
-        ensures asked { C.Comparer.asked comparer.old + pairs_walked result < 2 ^ 32 → C.Comparer.asked comparer.new ≡ C.Comparer.asked comparer.old + pairs_walked result }
+        ensures asked { RaisedBy (pairs_walked result) (C.Comparer.asked comparer.old) (C.Comparer.asked comparer.new) }
     {
         self.memory.limits.check_word(word.len())?;
         Ok(self.find(word, comparer))
@@ -76,11 +77,11 @@ impl<'a, S: Ordered> Store<'a, S> {
     pub fn lookup<C: Comparer<S>>(&self, word: &[S], comparer: &mut C) -> Result<Looked, Refusal>
         ensures refused { refusal_of result ≡ word_refusal self.now.memory.limits (length word.now) }
         ensures looked { (x : Looked) → result ≡ Ok x → LookedOf (steps S.Ordered.order (map S.Ordered.symbol word.now) 0 0 (tree S.Ordered.symbol self.now.memory)) x }
-        ensures asked { C.Comparer.asked comparer.old + pairs_of result < 2 ^ 32 → C.Comparer.asked comparer.new ≡ C.Comparer.asked comparer.old + pairs_of result }
+        ensures asked { RaisedBy (pairs_of result) (C.Comparer.asked comparer.old) (C.Comparer.asked comparer.new) }
     {
         let walk = self.walk(word, comparer)?;
         Ok(Looked {
-            found: walk.found.map(|place| self.memory.held(place)),
+            found: self.memory.held(walk.found),
             met: walk.met,
             pairs: walk.pairs,
         })

@@ -3,6 +3,7 @@ ghost use Rattle.std.specs.Option.{option_map};
 ghost use Rattle.rules.specs.Held.{nearest_after};
 ghost use Rattle.store.specs.Entries.{listed_in, listing};
 ghost use Rattle.dictionary.specs.Dictionaries.{Added, Kept, LookedUp, Opened, SameTree, held, limits, pairs_on};
+ghost use Rattle.words.specs.Counting.{RaisedBy};
 
 use super::Dictionary;
 use crate::tally::Slip;
@@ -62,7 +63,7 @@ impl<'a, S: Ordered> Dictionary<'a, S> {
         comparer: &mut C,
     ) -> Result<(Option<Held>, Slip), Refusal>
         ensures looked { LookedUp S.Ordered.order S.Ordered.symbol self.now (map S.Ordered.symbol word.now) result }
-        ensures asked { C.Comparer.asked comparer.old + pairs_on result < 2 ^ 32 → C.Comparer.asked comparer.new ≡ C.Comparer.asked comparer.old + pairs_on result }
+        ensures asked { RaisedBy (pairs_on result) (C.Comparer.asked comparer.old) (C.Comparer.asked comparer.new) }
         ensures lent { C.Comparer.asked comparer.old ≡ 0 → C.Comparer.asked comparer.new ≡ pairs_on result }
     {
         let looked = self.memory.lookup(word, comparer)?;

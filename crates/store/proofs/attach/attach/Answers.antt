@@ -20,22 +20,22 @@ loop-at-init g c = (
 pub overflow_cast-at : goal.overflow_cast-at
 overflow_cast-at g c = omega arith
 
-pub compare_in-step-requires : goal.compare_in-step-requires
-compare_in-step-requires g c =
+pub compare-step-requires : goal.compare-step-requires
+compare-step-requires g c =
     let m = in_memory c.loop-at.invariant.0 (omega arith) (length c.args.memory.now.strip.now) c.requires.free.strip in
     record { slot = m.0; word = m.1 }
 
 -- the step by the word that was handed over is the step by the word at the place
-step_is : (g : given.Over) (c : goal.After-child-at g) → c.compare_in-step.result ≡ compared_at g.S.Ordered.order ((entry_of g.S.Ordered.symbol c.args.memory.now) c.args.place).word (entry_of g.S.Ordered.symbol c.args.memory.now) c.args.memory.now.table.now c.loop-at.at c.loop-at.shares
-step_is g c = c.compare_in-step.ensures.value ∙ ap (λ (w : List ℕ). compared_at g.S.Ordered.order w (entry_of g.S.Ordered.symbol c.args.memory.now) c.args.memory.now.table.now c.loop-at.at c.loop-at.shares) c.requires.word
+step_is : (g : given.Over) (c : goal.After-child-at g) → c.compare-step.result ≡ compared_at g.S.Ordered.order ((entry_of g.S.Ordered.symbol c.args.memory.now) c.args.place).word (entry_of g.S.Ordered.symbol c.args.memory.now) c.args.memory.now.table.now c.loop-at.at c.loop-at.shares
+step_is g c = c.compare-step.ensures.value ∙ ap (λ (w : List ℕ). compared_at g.S.Ordered.order w (entry_of g.S.Ordered.symbol c.args.memory.now) c.args.memory.now.table.now c.loop-at.at c.loop-at.shares) c.requires.word
 
 down : (g : given.Over) (c : goal.After-child-at g) → Down c.loop-at.invariant.0 c.if-is_gt.hook c.child-at.result c.if-is_gt.shares
 down g c =
     let stays = sym c.stays_above.ensures ∙ c.if-not-stays_above.false in
     elim c.if-is_gt.branch [
-      | then-is_gt w ↦ goes_right c.loop-at.invariant.0 (omega arith) c.compare_in-step.result (step_is g c) stays c.if-is_gt.hook c.if-is_gt.shares c.child-at.result c.child-at.ensures
+      | then-is_gt w ↦ goes_right c.loop-at.invariant.0 (omega arith) c.compare-step.result (step_is g c) stays c.if-is_gt.hook c.if-is_gt.shares c.child-at.result c.child-at.ensures
           (sym c.is_gt.ensures ∙ w.if-is_gt.true) w.hook-is w.shares-is
-      | else-is_gt w ↦ goes_left c.loop-at.invariant.0 (omega arith) c.compare_in-step.result (step_is g c) stays c.if-is_gt.hook c.if-is_gt.shares c.child-at.result c.child-at.ensures
+      | else-is_gt w ↦ goes_left c.loop-at.invariant.0 (omega arith) c.compare-step.result (step_is g c) stays c.if-is_gt.hook c.if-is_gt.shares c.child-at.result c.child-at.ensures
           (sym c.is_gt.ensures ∙ w.if-is_gt.false) w.hook-is w.shares-is
     ]
 
@@ -85,7 +85,7 @@ returns g c = record {
       (elim c.loop-at-test.branch [
         | else-loop-at-test w ↦ inl (let e = w.loop-at-test.false in omega arith)
         | then-loop-at-test+then-not-stays_above w ↦ inr (subst (λ (y : Comparison). is_above g.S.Ordered.order ((entry_of g.S.Ordered.symbol c.args.memory.now) c.loop-at.at) ((entry_of g.S.Ordered.symbol c.args.memory.now) c.args.place) y ≡ false)
-            (w.compare_in-step.ensures.value ∙ ap (λ (w : List ℕ). compared_at g.S.Ordered.order w (entry_of g.S.Ordered.symbol c.args.memory.now) c.args.memory.now.table.now c.loop-at.at c.loop-at.shares) c.requires.word)
+            (w.compare-step.ensures.value ∙ ap (λ (w : List ℕ). compared_at g.S.Ordered.order w (entry_of g.S.Ordered.symbol c.args.memory.now) c.args.memory.now.table.now c.loop-at.at c.loop-at.shares) c.requires.word)
             (sym w.stays_above.ensures ∙ w.if-not-stays_above.true))
       ])
       -- what unzip did, said with the word at the place

@@ -21,8 +21,8 @@ loop-at-init g c =
 pub overflow_cast-at : goal.overflow_cast-at
 overflow_cast-at g c = omega arith
 
-pub compare_in-step-requires : goal.compare_in-step-requires
-compare_in-step-requires g c =
+pub compare-step-requires : goal.compare-step-requires
+compare-step-requires g c =
     let A = c.loop-at.invariant.2 in
     let m = in_memory c.loop-at.invariant.0 (omega arith) (length c.args.memory.now.strip.now) c.requires.free.strip in
     record {
@@ -36,16 +36,16 @@ hang-requires g c = hook_in c.loop-at.invariant.0
 
 pub overflow_cast-share : goal.overflow_cast-share
 overflow_cast-share g c =
-    let s = share_fits c.loop-at.invariant.0 c.compare_in-step.result (c.compare_in-step.ensures.value ∙ step_in g.S.Ordered.order g.S.Ordered.symbol (map g.S.Ordered.symbol c.args.word.now) c.args.memory.now c.loop-at.memory c.loop-at.at c.loop-at.shares c.loop-at.invariant.2) in
+    let s = share_fits c.loop-at.invariant.0 c.compare-step.result (c.compare-step.ensures.value ∙ step_in g.S.Ordered.order g.S.Ordered.symbol (map g.S.Ordered.symbol c.args.word.now) c.args.memory.now c.loop-at.memory c.loop-at.at c.loop-at.shares c.loop-at.invariant.2) in
     let l = length-map c.args.word.now g.S.Ordered.symbol in
     omega arith
 
 pub loop-at-smaller-then-is_gt : goal.loop-at-smaller-then-is_gt
-loop-at-smaller-then-is_gt g c = (goes_after c.loop-at.invariant.0 (omega arith) c.compare_in-step.result (c.compare_in-step.ensures.value ∙ step_in g.S.Ordered.order g.S.Ordered.symbol (map g.S.Ordered.symbol c.args.word.now) c.args.memory.now c.loop-at.memory c.loop-at.at c.loop-at.shares c.loop-at.invariant.2) (sym c.is_gt.ensures ∙ c.if-is_gt.true) c.hang.new.table c.note.new.table c.hang.ensures c.note.ensures c.child-next.result c.child-next.ensures).1
+loop-at-smaller-then-is_gt g c = (goes_after c.loop-at.invariant.0 (omega arith) c.compare-step.result (c.compare-step.ensures.value ∙ step_in g.S.Ordered.order g.S.Ordered.symbol (map g.S.Ordered.symbol c.args.word.now) c.args.memory.now c.loop-at.memory c.loop-at.at c.loop-at.shares c.loop-at.invariant.2) (sym c.is_gt.ensures ∙ c.if-is_gt.true) c.hang.new.table c.note.new.table c.hang.ensures c.note.ensures c.child-next.result c.child-next.ensures).1
 
 pub loop-at-preserved-then-is_gt : goal.loop-at-preserved-then-is_gt
 loop-at-preserved-then-is_gt g c = (
-  (goes_after c.loop-at.invariant.0 (omega arith) c.compare_in-step.result (c.compare_in-step.ensures.value ∙ step_in g.S.Ordered.order g.S.Ordered.symbol (map g.S.Ordered.symbol c.args.word.now) c.args.memory.now c.loop-at.memory c.loop-at.at c.loop-at.shares c.loop-at.invariant.2) (sym c.is_gt.ensures ∙ c.if-is_gt.true) c.hang.new.table c.note.new.table c.hang.ensures c.note.ensures c.child-next.result c.child-next.ensures).0,
+  (goes_after c.loop-at.invariant.0 (omega arith) c.compare-step.result (c.compare-step.ensures.value ∙ step_in g.S.Ordered.order g.S.Ordered.symbol (map g.S.Ordered.symbol c.args.word.now) c.args.memory.now c.loop-at.memory c.loop-at.at c.loop-at.shares c.loop-at.invariant.2) (sym c.is_gt.ensures ∙ c.if-is_gt.true) c.hang.new.table c.note.new.table c.hang.ensures c.note.ensures c.child-next.result c.child-next.ensures).0,
   omega arith,
   (let a = c.loop-at.invariant.2 in record { strip = a.strip; limits = a.limits; top = a.top; count = a.count }),
 )
@@ -54,11 +54,11 @@ pub hang-requires-else-is_gt : goal.hang-requires-else-is_gt
 hang-requires-else-is_gt g c = hook_in' c.loop-at.invariant.0
 
 pub loop-at-smaller : goal.loop-at-smaller
-loop-at-smaller g c = (goes_before c.loop-at.invariant.0 (omega arith) c.compare_in-step.result (c.compare_in-step.ensures.value ∙ step_in g.S.Ordered.order g.S.Ordered.symbol (map g.S.Ordered.symbol c.args.word.now) c.args.memory.now c.loop-at.memory c.loop-at.at c.loop-at.shares c.loop-at.invariant.2) (sym c.is_gt.ensures ∙ c.if-is_gt.false) c.hang-else-is_gt.new.table c.note-else-is_gt.new.table c.hang-else-is_gt.ensures c.note-else-is_gt.ensures c.child-next-else-is_gt.result c.child-next-else-is_gt.ensures).1
+loop-at-smaller g c = (goes_before c.loop-at.invariant.0 (omega arith) c.compare-step.result (c.compare-step.ensures.value ∙ step_in g.S.Ordered.order g.S.Ordered.symbol (map g.S.Ordered.symbol c.args.word.now) c.args.memory.now c.loop-at.memory c.loop-at.at c.loop-at.shares c.loop-at.invariant.2) (sym c.is_gt.ensures ∙ c.if-is_gt.false) c.hang-else-is_gt.new.table c.note-else-is_gt.new.table c.hang-else-is_gt.ensures c.note-else-is_gt.ensures c.child-next-else-is_gt.result c.child-next-else-is_gt.ensures).1
 
 pub loop-at-preserved : goal.loop-at-preserved
 loop-at-preserved g c = (
-  (goes_before c.loop-at.invariant.0 (omega arith) c.compare_in-step.result (c.compare_in-step.ensures.value ∙ step_in g.S.Ordered.order g.S.Ordered.symbol (map g.S.Ordered.symbol c.args.word.now) c.args.memory.now c.loop-at.memory c.loop-at.at c.loop-at.shares c.loop-at.invariant.2) (sym c.is_gt.ensures ∙ c.if-is_gt.false) c.hang-else-is_gt.new.table c.note-else-is_gt.new.table c.hang-else-is_gt.ensures c.note-else-is_gt.ensures c.child-next-else-is_gt.result c.child-next-else-is_gt.ensures).0,
+  (goes_before c.loop-at.invariant.0 (omega arith) c.compare-step.result (c.compare-step.ensures.value ∙ step_in g.S.Ordered.order g.S.Ordered.symbol (map g.S.Ordered.symbol c.args.word.now) c.args.memory.now c.loop-at.memory c.loop-at.at c.loop-at.shares c.loop-at.invariant.2) (sym c.is_gt.ensures ∙ c.if-is_gt.false) c.hang-else-is_gt.new.table c.note-else-is_gt.new.table c.hang-else-is_gt.ensures c.note-else-is_gt.ensures c.child-next-else-is_gt.result c.child-next-else-is_gt.ensures).0,
   omega arith,
   (let a = c.loop-at.invariant.2 in record { strip = a.strip; limits = a.limits; top = a.top; count = a.count }),
 )

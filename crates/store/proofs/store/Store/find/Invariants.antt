@@ -2,13 +2,13 @@ use Rattle.std.proofs.Common.{◌≡◌, ◌+◌, ◌^◌, ◌<◌, map}
 use Rattle.store.specs.Stores.{entry_of}
 use Rattle.store.specs.Tables.{rooted, size}
 use Rattle.store.proofs.Walks.{Walking}
-use Rattle.store.proofs.lookup.find.Given as goal
+use Rattle.store.proofs.store.Store.find.Given as goal
 
 abbrev pub invariant-loop-at : goal.invariant-loop-at
 invariant-loop-at g l =
-    Walking g.S.Ordered.order (map g.S.Ordered.symbol l.word) (entry_of g.S.Ordered.symbol l.memory) l.memory.table.now l.memory.limits.capacity l.memory.top l.at l.shares l.met l.pairs
+    Walking g.S.Ordered.order (map g.S.Ordered.symbol l.word) (entry_of g.S.Ordered.symbol l.self.memory) l.self.memory.table.now l.self.memory.limits.capacity l.self.memory.top l.at l.shares l.met l.pairs
     × (g.C.Comparer.asked l.initial.comparer + l.pairs < 2 ^ 32 → g.C.Comparer.asked l.comparer ≡ g.C.Comparer.asked l.initial.comparer + l.pairs)
     × (l.at < 2 ^ 16)
 
 abbrev pub decreases-loop-at : goal.decreases-loop-at
-decreases-loop-at g l = size (rooted l.memory.table.now l.memory.limits.capacity l.at)
+decreases-loop-at g l = size (rooted l.self.memory.table.now l.self.memory.limits.capacity l.at)

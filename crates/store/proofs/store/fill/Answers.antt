@@ -1,7 +1,7 @@
 use Rattle.std.proofs.Common.{ℕ, ◌+◌, ◌*◌, ◌≤◌, length, sym, ap, ◌∙◌, subst, arith}
 use Rattle.store.specs.Tables.{overwritten}
 use Rattle.store.proofs.Adding.{word_room, attach_free, attach_word, filled_by}
-use Rattle.store.proofs.calls.fill.Goals as goal
+use Rattle.store.proofs.store.fill.Goals as goal
 
 pub put_word-requires : goal.put_word-requires
 put_word-requires g c =

@@ -5,16 +5,14 @@ use Rattle.store.specs.Entries.{listed_at, listing}
 use Rattle.store.specs.Stores.{places}
 use Rattle.store.specs.Tables.{slot_at}
 use Rattle.store.proofs.Listing.{nearest_listed}
+use Rattle.store.proofs.Props.{filled_out}
 use Rattle.store.proofs.Tables.{in_strip, in_table}
-use Rattle.store.proofs.memory.Memory.following.Goals as goal
+use Rattle.store.proofs.store.Store.following.Goals as goal
 
-pub nearest-requires : goal.nearest-requires
-nearest-requires g c = c.requires.sound
-
-pub entry_at-requires : goal.entry_at-requires
-entry_at-requires g c =
-    let m = c.args.self.now in
-    let sound = c.requires.sound in
+pub entry-requires : goal.entry-requires
+entry-requires g c =
+    let m = c.args.self.now.memory in
+    let sound = (filled_out c.args.self.now.filled).sound in
     let i = c.nearest.ensures.held c.in_ok-place.place c.in_ok-place.was in
     let below = in_table m.table.now m.limits.capacity m.top c.in_ok-place.place (places m) sound.stands i in
     record {
@@ -24,16 +22,16 @@ entry_at-requires g c =
 
 pub returns-in_err-place : goal.returns-in_err-place
 returns-in_err-place g c = λ K.
-    let m = c.args.self.now in
-    let sound = c.requires.sound in
+    let m = c.args.self.now.memory in
+    let sound = (filled_out c.args.self.now.filled).sound in
     ap (option_map (listing g.S.Ordered.symbol)) c.from_residual.ensures
     ∙ sym (ap (option_map (listed_at g.S.Ordered.symbol m)) c.in_err-place.was)
     ∙ nearest_listed g.S.Ordered.order g.met.S.Ordered.lawful g.S.Ordered.symbol m sound.stands K Right (map g.S.Ordered.symbol c.args.word.now) c.nearest.result c.nearest.ensures.entry c.nearest.ensures.held
 
 pub returns : goal.returns
 returns g c = λ K.
-    let m = c.args.self.now in
-    let sound = c.requires.sound in
-    ap Some c.entry_at.ensures
+    let m = c.args.self.now.memory in
+    let sound = (filled_out c.args.self.now.filled).sound in
+    ap Some c.entry.ensures
     ∙ sym (ap (option_map (listed_at g.S.Ordered.symbol m)) c.in_ok-place.was)
     ∙ nearest_listed g.S.Ordered.order g.met.S.Ordered.lawful g.S.Ordered.symbol m sound.stands K Right (map g.S.Ordered.symbol c.args.word.now) c.nearest.result c.nearest.ensures.entry c.nearest.ensures.held
