@@ -23,16 +23,16 @@ use Rattle.dictionary.specs.declared.tally.Slip.{Slip}
 
 -- the ceiling and the capacity in force
 abbrev pub limits : {S : Type 0} → Dictionary S → Limits
-limits d = d.memory.limits
+limits d = d.store.memory.limits
 
 module _ {S : Type 0} (symbol : S → ℕ) where
   -- the tree that stands in the table, with the lengths stored there
   abbrev pub tree : Dictionary S → Tree
-  tree d = stores.tree symbol d.memory
+  tree d = stores.tree symbol d.store.memory
 
   -- the held list: the entries of that tree, in word order
   abbrev pub held : Dictionary S → List Entry
-  held d = stores.held symbol d.memory
+  held d = stores.held symbol d.store.memory
 
 -- what a lookup answers: a refusal, or what it found and its slip
 abbrev pub Answer : Type 0 → Type 0
@@ -51,14 +51,14 @@ module _ (order : ℕ → ℕ → Ordering) {S : Type 0} (symbol : S → ℕ) wh
   -- What open gives and every call keeps: the held list is in word order, and the tree in the table is the tree of the held list, with both lengths of each entry.
   -- Since a dictionary is had only from open, it holds of every dictionary.
   abbrev pub Kept : Dictionary S → Type 0
-  Kept d = keeping.Kept order symbol d.memory
+  Kept d = keeping.Kept order symbol d.store.memory
 
   -- A dictionary just opened over a table and a strip: the memory is as it was, and nothing is held.
   pub record Opened (table : List Slot) (strip : List S) (ceiling : ℕ) (d : Dictionary S) : Type 0 where
     pub limited : limits d ≡ limits_for (length table) (length strip) ceiling
     pub empty : held symbol d ≡ []
-    pub table_kept : d.memory.table.now ≡ table
-    pub strip_kept : d.memory.strip.now ≡ strip
+    pub table_kept : d.store.memory.table.now ≡ table
+    pub strip_kept : d.store.memory.strip.now ≡ strip
     pub kept : Kept d
 
   -- Two dictionaries keep the same tree, stored lengths too, exactly when they hold the same words, weights and tags.
@@ -67,7 +67,7 @@ module _ (order : ℕ → ℕ → Ordering) {S : Type 0} (symbol : S → ℕ) wh
 
   -- An add to d answered r and left d': both as the plain list with the limits says.
   abbrev pub Added : Entry → Dictionary S → Result ℕ Refusal → Dictionary S → Type 0
-  Added e d r d' = keeping.Follows order symbol (added order e) d.memory r d'.memory
+  Added e d r d' = keeping.Follows order symbol (added order e) d.store.memory r d'.store.memory
 
   -- What the plain list answers to a lookup: refused for the word (1, 2), else the weight and the tag of its entry, if it is held, and the slip: how many entries are met, and how many pairs are compared.
   abbrev pub looked_up : Limits → List ℕ → List Entry → Answer Told

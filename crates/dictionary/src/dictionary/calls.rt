@@ -8,11 +8,11 @@ ghost use Rattle.words.specs.Counting.{RaisedBy};
 use super::Dictionary;
 use crate::tally::Slip;
 use kinds::kind::Ordered;
-use store::entry::{Entry, Held};
-use store::memory::Memory;
 use limits::bounds::Limits;
 use limits::refusal::Refusal;
 use slots::slot::Slot;
+use store::entry::{Entry, Held};
+use store::store::Store;
 use words::comparer::{Comparer, Counter};
 
 impl<'a, S: Ordered> Dictionary<'a, S> {
@@ -23,7 +23,7 @@ impl<'a, S: Ordered> Dictionary<'a, S> {
         ensures alike { SameTree S.Ordered.order S.Ordered.symbol }
     {
         Dictionary {
-            memory: Memory::open(table, strip, ceiling),
+            store: Store::open(table, strip, ceiling),
         }
     }
 
@@ -31,14 +31,14 @@ impl<'a, S: Ordered> Dictionary<'a, S> {
     pub fn limits(&self) -> Limits
         ensures { result ≡ limits self.now }
     {
-        self.memory.limits()
+        self.store.limits()
     }
 
     // How many entries are held.
     pub fn count(&self) -> usize
         ensures { result ≡ length (held S.Ordered.symbol self.now) }
     {
-        self.memory.count()
+        self.store.count()
     }
 
     // Adds an entry and answers how many are then held.
@@ -46,7 +46,7 @@ impl<'a, S: Ordered> Dictionary<'a, S> {
     pub fn add(&mut self, word: &[S], weight: u32, tag: u32) -> Result<usize, Refusal>
         ensures { Added S.Ordered.order S.Ordered.symbol (record { word = map S.Ordered.symbol word.entry.now; weight = weight; tag = tag }) self.old result self.new }
     {
-        self.memory.add(word, weight, tag)
+        self.store.add(word, weight, tag)
     }
 
     // Looks a word up: what its entry has, if it is held, and the slip of what the lookup cost. Refused: 1 without symbols, 2 above the ceiling.
@@ -66,7 +66,7 @@ impl<'a, S: Ordered> Dictionary<'a, S> {
         ensures asked { RaisedBy (pairs_on result) (C.Comparer.asked comparer.old) (C.Comparer.asked comparer.new) }
         ensures lent { C.Comparer.asked comparer.old ≡ 0 → C.Comparer.asked comparer.new ≡ pairs_on result }
     {
-        let looked = self.memory.lookup(word, comparer)?;
+        let looked = self.store.lookup(word, comparer)?;
         Ok((looked.found, Slip::new(looked.met, looked.pairs)))
     }
 
@@ -74,6 +74,6 @@ impl<'a, S: Ordered> Dictionary<'a, S> {
     pub fn following(&self, word: &[S]) -> Option<Entry<'_, S>>
         ensures { Kept S.Ordered.order S.Ordered.symbol self.now → option_map (listing S.Ordered.symbol) result ≡ option_map (listed_in S.Ordered.order (held S.Ordered.symbol self.now)) (nearest_after S.Ordered.order (map S.Ordered.symbol word.now) (held S.Ordered.symbol self.now)) }
     {
-        self.memory.following(word)
+        self.store.following(word)
     }
 }

@@ -3,14 +3,10 @@ use Rattle.std.proofs.lemmas.List.{length-map}
 use Rattle.std.proofs.lemmas.Result.{err_from_is_err_and}
 use Rattle.limits.specs.declared.refusal.Refusal.{Refusal}
 use Rattle.limits.specs.Refusals.{word_refusal}
-use Rattle.store.proofs.Props.{filled_out}
 use Rattle.dictionary.specs.declared.tally.Slip.{Slip}
 use Rattle.dictionary.specs.Dictionaries.{Answer, LookedUp, limits, pairs_on}
 use Rattle.dictionary.proofs.Lookups.{refused, answered_with}
 use Rattle.dictionary.proofs.dictionary.Dictionary.lookup_by.Goals as goal
-
-pub lookup-requires : goal.lookup-requires
-lookup-requires g c = filled_out c.args.self.now.filled
 
 pub returns-in_err-looked : goal.returns-in_err-looked
 returns-in_err-looked g c =
