@@ -3,7 +3,7 @@ use Rattle.std.specs.Prelude.{ℕ, max, cond, List, nat_lt}
 use Rattle.std.specs.declared.cmp.Ordering.{Ordering}
 use Rattle.words.specs.declared.comparison.Comparison.{Comparison}
 use Rattle.rules.specs.Walks.{compared}
-use Rattle.slots.specs.declared.compare.Shares.{Shares}
+use Rattle.slots.specs.declared.search.Shares.{Shares}
 use Rattle.slots.specs.declared.slot.Slot.{Slot}
 
 -- the slot of zeros

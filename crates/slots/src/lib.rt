@@ -1,5 +1,5 @@
-//! What an entry table has at one place, and how a lookup compares a sought word with the entry there.
+//! What an entry table has at one place, and how a search compares a sought word with the entry there.
 #![tactic(auto)]
 
-pub mod compare;
+pub mod search;
 pub mod slot;

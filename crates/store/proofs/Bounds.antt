@@ -1,5 +1,5 @@
--- How far one comparison gets: it shares no more than the word has, and looks at no more pairs.
-use Rattle.std.proofs.Common.{◌≡◌, ℕ, suc, ◌≤◌, Bool, true, false, cond, eqb, ltb, List, [], ◌∷◌, length, drop, Ordering, Less, Greater, refl, suc-le-suc, zero-le, arith, length-drop}
+-- How far one comparison gets: it shares no more than each word has, and looks at no more pairs.
+use Rattle.std.proofs.Common.{◌≡◌, ℕ, suc, ◌≤◌, min, Bool, true, false, cond, eqb, ltb, List, [], ◌∷◌, length, drop, Ordering, Less, Greater, refl, suc-le-suc, zero-le, arith, length-drop}
 use Rattle.std.proofs.lemmas.Bool.{ltb-true}
 use Rattle.words.specs.declared.comparison.Comparison.{Comparison}
 use Rattle.words.specs.Comparisons.{start, compared_from}
@@ -10,28 +10,32 @@ shared_at : (b : Bool) (m n : ℕ) → m ≤ n → cond b (suc m) 0 ≤ suc n
 shared_at true m n h = suc-le-suc h
 shared_at false m n h = zero-le
 
-shared_within : (u v : List ℕ) → shared u v ≤ length u
-shared_within [] v = zero-le
-shared_within (x ∷ u) [] = zero-le
-shared_within (x ∷ u) (y ∷ v) = shared_at (eqb x y) (shared u v) (length u) (shared_within u v)
-
 looked_at_lem : (b : Bool) (m n : ℕ) → m ≤ n → suc (cond b m 0) ≤ suc n
 looked_at_lem true m n h = suc-le-suc h
 looked_at_lem false m n h = suc-le-suc zero-le
 
-looked_within : (u v : List ℕ) → looked u v ≤ length u
+abbrev shorter : List ℕ → List ℕ → ℕ
+shorter u v = min (length u) (length v)
+
+shared_within : (u v : List ℕ) → shared u v ≤ shorter u v
+shared_within [] v = zero-le
+shared_within (x ∷ u) [] = zero-le
+shared_within (x ∷ u) (y ∷ v) = (let h = shared_at (eqb x y) (shared u v) (shorter u v) (shared_within u v) in omega arith)
+
+looked_within : (u v : List ℕ) → looked u v ≤ shorter u v
 looked_within [] v = zero-le
 looked_within (x ∷ u) [] = zero-le
-looked_within (x ∷ u) (y ∷ v) = looked_at_lem (eqb x y) (looked u v) (length u) (looked_within u v)
+looked_within (x ∷ u) (y ∷ v) = (let h = looked_at_lem (eqb x y) (looked u v) (shorter u v) (looked_within u v) in omega arith)
 
 pub record Within (n : ℕ) (c : Comparison) : Type 0 where
   pub share : c.share ≤ n
   pub pairs : c.pairs ≤ n
 
-from_within : (order : ℕ → ℕ → Ordering) (k : ℕ) (w v : List ℕ) → Within (length w) (compared_from order k w v)
-from_within order k w v =
+from_within : (order : ℕ → ℕ → Ordering) (k : ℕ) (w v : List ℕ) (n : ℕ) → shorter w v ≤ n → Within n (compared_from order k w v)
+from_within order k w v n h =
     let s = start k w v in
     let d = length-drop s w in
+    let e = length-drop s v in
     let a = shared_within (drop s w) (drop s v) in
     let b = looked_within (drop s w) (drop s v) in
     record { share = omega arith; pairs = omega arith }
@@ -42,6 +46,6 @@ by_lengths true y b kept stored n c e h k = let l = ltb-true stored kept e in re
 by_lengths false true b kept stored n c e h k = record { share = h; pairs = zero-le }
 by_lengths false false b kept stored n c e h k = k
 
-pub compared_within : (order : ℕ → ℕ → Ordering) (w v : List ℕ) (b : Bool) (kept stored : ℕ) → kept ≤ length w → Within (length w) (compared order w v b kept stored)
-compared_within order w v b kept stored h =
-    by_lengths (ltb stored kept) (ltb kept stored) b kept stored (length w) (compared_from order kept w v) refl h (from_within order kept w v)
+pub compared_within : (order : ℕ → ℕ → Ordering) (w v : List ℕ) (b : Bool) (kept stored n : ℕ) → kept ≤ n → shorter w v ≤ n → Within n (compared order w v b kept stored)
+compared_within order w v b kept stored n h m =
+    by_lengths (ltb stored kept) (ltb kept stored) b kept stored n (compared_from order kept w v) refl h (from_within order kept w v n m)

@@ -9,7 +9,7 @@ use Rattle.rules.specs.Inserts.{is_above}
 use Rattle.slots.specs.declared.slot.Slot.{Slot}
 use Rattle.slots.specs.declared.slot.Side.{Side}
 use Rattle.slots.specs.declared.slot.Side.TheVariants.{Left, Right}
-use Rattle.slots.specs.declared.compare.Shares.{Shares}
+use Rattle.slots.specs.declared.search.Shares.{Shares}
 use Rattle.store.specs.declared.writes.Hook.{Hook}
 use Rattle.store.specs.Tables.{slot_at, Rooted, leaf, node, size, In, Apart, Stands, rooted}
 use Rattle.store.specs.Lookups.{compared_at}
@@ -170,7 +170,7 @@ module _ {order : ℕ → ℕ → Ordering} {entry : ℕ → Entry} {ceiling cap
   share_within =
       let e = D.before in
       let f = D.after in
-      (compared_within order (entry x).word (entry q).word (ltb k.after k.before) (max k.before k.after) (cond (ltb k.after k.before) m n) (omega arith)).share
+      (compared_within order (entry x).word (entry q).word (ltb k.after k.before) (max k.before k.after) (cond (ltb k.after k.before) m n) (length (entry x).word) (omega arith) (omega arith)).share
 
   abbrev pub Down : Hook → ℕ → Shares → Type 0
   Down hook next k' = Descending order entry ceiling capacity x F top T (Some hook) next k' × (span T capacity next < span T capacity q)

@@ -1,5 +1,6 @@
 pub mod Tables
 pub mod Bounds
+pub mod Searching
 pub mod Walks
 pub mod Frames
 pub mod Sides

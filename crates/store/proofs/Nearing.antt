@@ -7,15 +7,21 @@ use Rattle.words.specs.declared.comparison.Comparison.{Comparison}
 use Rattle.rules.specs.Entries.{Entry}
 use Rattle.rules.specs.Neighbours.{preceding_by, following_by}
 use Rattle.rules.specs.Trees.{top}
-use Rattle.slots.specs.declared.compare.Shares.{Shares}
+use Rattle.slots.specs.declared.search.Shares.{Shares}
 use Rattle.slots.specs.declared.slot.Slot.{Slot}
 use Rattle.slots.specs.declared.slot.Side.{Side}
 use Rattle.slots.specs.declared.slot.Side.TheVariants.{Left, Right}
 use Rattle.store.specs.Lookups.{compared_at}
 use Rattle.store.specs.Neighbours.{nearest_by, is_right_turn}
 use Rattle.store.specs.Tables.{Rooted, size, In, Stands, slot_at, rooted, plain}
-use Rattle.store.specs.Unzips.{one_on_side}
+use Rattle.slots.specs.Searches.{passed}
+use Rattle.store.specs.Unzips.{one_on_side, child_on}
 use Rattle.store.proofs.Tables.{Turn, turn, none}
+
+-- whether a side is the right one
+abbrev pub to_right : Side → Bool
+to_right Left = false
+to_right Right = true
 
 cond_not : {A : Type 0} (b : Bool) (x y : A) → cond (not b) x y ≡ cond b y x
 cond_not true x y = refl
@@ -52,9 +58,9 @@ module _ {order : ℕ → ℕ → Ordering} {side : Side} {w : List ℕ} {entry 
     pub inside_here : In at (rooted table capacity origin)
     inside_here = h.inside at here.here
 
-    passed : (s : Side) (x y : Option ℕ) → ((p : ℕ) → x ≡ Some p → In p (rooted table capacity origin)) → ((p : ℕ) → y ≡ Some p → In p (rooted table capacity origin)) → (p : ℕ) → one_on_side s x y ≡ Some p → In p (rooted table capacity origin)
-    passed Left x y f g = f
-    passed Right x y f g = g
+    passed_in : (s : Side) (x y : Option ℕ) → ((p : ℕ) → x ≡ Some p → In p (rooted table capacity origin)) → ((p : ℕ) → y ≡ Some p → In p (rooted table capacity origin)) → (p : ℕ) → one_on_side s x y ≡ Some p → In p (rooted table capacity origin)
+    passed_in Left x y f g = f
+    passed_in Right x y f g = g
 
     at_in : (p : ℕ) → Some at ≡ Some p → In p (rooted table capacity origin)
     at_in p e = (let f : p ≡ at = cc in rw f inside_here)
@@ -83,32 +89,35 @@ module _ {order : ℕ → ℕ → Ordering} {side : Side} {w : List ℕ} {entry 
               (following_by order w k.before x.share (Some (entry at)) (plain entry (rooted table capacity (slot_at table at).left)))
               (following_by order w x.share k.after (option_map entry best) (plain entry (rooted table capacity (slot_at table at).right)))) e)
 
-      pub go_right : is_right_turn side c.answer ≡ true → (next : ℕ) → next ≡ (slot_at table at).right → (b : Option ℕ) → b ≡ one_on_side side (Some at) best → Going next (record { before = c.share; after = k.after }) b
-      go_right a next same b f =
-          let t = here in
-          let j : Shares = record { before = c.share; after = k.after } in
-          subst (λ (z : Option ℕ). Going next j z) (sym f) (subst (λ (z : ℕ). Going z j (one_on_side side (Some at) best)) (sym same) (
-            record {
-              stands = t.stands_right;
-              fits = (let x = t.smaller_right in let y = h.fits in omega arith);
-              inside = λ p i. h.inside p (t.in_right p i);
-              best_in = passed side (Some at) best at_in h.best_in;
-              ends = h.ends ∙ ended_by ∙ cond-true (is_right_turn side c.answer) _ _ a;
-            },
-            t.smaller_right,
-          ))
+      -- what it has passed on the side asked for
+      abbrev pub best_after : Side → Option ℕ
+      best_after Left = one_on_side side best (Some at)
+      best_after Right = one_on_side side (Some at) best
 
-      pub go_left : is_right_turn side c.answer ≡ false → (next : ℕ) → next ≡ (slot_at table at).left → (b : Option ℕ) → b ≡ one_on_side side best (Some at) → Going next (record { before = k.before; after = c.share }) b
-      go_left a next same b f =
+      pub go : (onward : Side) (next : ℕ) (j : Shares) (b : Option ℕ) → is_right_turn side c.answer ≡ to_right onward → next ≡ child_on onward (slot_at table at) → j ≡ passed onward c.share k → b ≡ best_after onward → Going next j b
+      go Left next j b a same is f =
           let t = here in
-          let j : Shares = record { before = k.before; after = c.share } in
-          subst (λ (z : Option ℕ). Going next j z) (sym f) (subst (λ (z : ℕ). Going z j (one_on_side side best (Some at))) (sym same) (
+          let j₁ : Shares = record { before = k.before; after = c.share } in
+          subst (λ (z : Shares). Going next z b) (sym is) (subst (λ (z : Option ℕ). Going next j₁ z) (sym f) (subst (λ (z : ℕ). Going z j₁ (one_on_side side best (Some at))) (sym same) (
             record {
               stands = t.stands_left;
               fits = (let x = t.smaller_left in let y = h.fits in omega arith);
               inside = λ p i. h.inside p (t.in_left p i);
-              best_in = passed side best (Some at) h.best_in at_in;
+              best_in = passed_in side best (Some at) h.best_in at_in;
               ends = h.ends ∙ ended_by ∙ cond-false (is_right_turn side c.answer) _ _ a;
             },
             t.smaller_left,
-          ))
+          )))
+      go Right next j b a same is f =
+          let t = here in
+          let j₁ : Shares = record { before = c.share; after = k.after } in
+          subst (λ (z : Shares). Going next z b) (sym is) (subst (λ (z : Option ℕ). Going next j₁ z) (sym f) (subst (λ (z : ℕ). Going z j₁ (one_on_side side (Some at) best)) (sym same) (
+            record {
+              stands = t.stands_right;
+              fits = (let x = t.smaller_right in let y = h.fits in omega arith);
+              inside = λ p i. h.inside p (t.in_right p i);
+              best_in = passed_in side (Some at) best at_in h.best_in;
+              ends = h.ends ∙ ended_by ∙ cond-true (is_right_turn side c.answer) _ _ a;
+            },
+            t.smaller_right,
+          )))

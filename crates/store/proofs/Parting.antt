@@ -10,7 +10,8 @@ use Rattle.store.specs.Stores.{TableAlone, entry_of}
 use Rattle.slots.specs.declared.slot.Slot.{Slot}
 use Rattle.slots.specs.declared.slot.Side.{Side}
 use Rattle.slots.specs.declared.slot.Side.TheVariants.{Left, Right}
-use Rattle.slots.specs.declared.compare.Shares.{Shares}
+use Rattle.slots.specs.declared.search.Shares.{Shares}
+use Rattle.slots.specs.Searches.{passed}
 use Rattle.store.specs.Tables.{slot_at, entry_at, Rooted, leaf, node, size, In, Apart, Stands}
 use Rattle.store.specs.Lookups.{compared_at}
 use Rattle.store.specs.Unzips.{other, child_on, hung, noted, Same, On, Split, FreeOf, Unzipped, lesser_at, greater_at}
@@ -280,7 +281,7 @@ module _ {order : ℕ → ℕ → Ordering} {S : Type 0} {symbol : S → ℕ} {s
   share_within =
       let e = G.before in
       let f = G.after in
-      (compared_within order w (entry q).word (ltb k.after k.before) (max k.before k.after) (cond (ltb k.after k.before) (slot_at T q).left_length (slot_at T q).right_length) (omega arith)).share
+      (compared_within order w (entry q).word (ltb k.after k.before) (max k.before k.after) (cond (ltb k.after k.before) (slot_at T q).left_length (slot_at T q).right_length) (length w) (omega arith) (omega arith)).share
 
   pub share_fits : (x : Comparison) → x ≡ compared_at order w (entry_at symbol T strip ceiling) T q k → x.share ≤ length w
   share_fits x e = subst (λ (z : Comparison). z.share ≤ length w) (sym (e ∙ step_is)) share_within
@@ -307,37 +308,37 @@ module _ {order : ℕ → ℕ → Ordering} {S : Type 0} {symbol : S → ℕ} {s
       let inside : q < length T = omega (arith, held, G.stage.1.wide) in
       (noted_same (hung T a b q) q d n (room H inside)).word p ∙ H.word p ∙ G.words p
 
-  abbrev pub Onto : Comparison → List Slot → ℕ → Type 0
-  Onto x T₂ next =
-      Going order symbol strip ceiling capacity w T₀ F T₂ next q Right h' s' (record { before = x.share; after = k.after })
+  abbrev pub Onto : Comparison → List Slot → ℕ → Shares → Type 0
+  Onto x T₂ next j =
+      Going order symbol strip ceiling capacity w T₀ F T₂ next q Right h' s' j
       × (span T₂ capacity next < span T capacity q)
 
   pub goes_after : q < capacity → (x : Comparison) → x ≡ compared_at order w (entry_at symbol T strip ceiling) T q k → is_gt x.answer ≡ true
-      → (T₁ T₂ : List Slot) → T₁ ≡ hung T h s q → T₂ ≡ noted T₁ q Right x.share → (next : ℕ) → next ≡ (slot_at T q).right → Onto x T₂ next
-  goes_after held x e g T₁ T₂ e₁ e₂ next e₃ =
+      → (T₁ T₂ : List Slot) → T₁ ≡ hung T h s q → T₂ ≡ noted T₁ q Right x.share → (next : ℕ) → next ≡ (slot_at T q).right → (j : Shares) → j ≡ passed Right x.share k → Onto x T₂ next j
+  goes_after held x e g T₁ T₂ e₁ e₂ next e₃ j e₄ =
       let f : x ≡ here = e ∙ step_is in
       let st = G.stage in
       let t = turn_after order entry ceiling capacity w F k.before k.after T q h s h' s' held st.0 (subst (λ (z : Comparison). is_gt z.answer ≡ true) f g) st.1 st.2 st.3 in
-      let core : Onto here (noted (hung T h s q) q Right here.share) (slot_at T q).right =
+      let core : Onto here (noted (hung T h s q) q Right here.share) (slot_at T q).right (passed Right here.share k) =
       (record { stage = t.0; words = words_after held h s Right here.share st.1.at; before = share_within; after = G.after }, t.1) in
-      subst (Onto x T₂) (sym e₃) (subst (λ (z : List Slot). Onto x z (slot_at T q).right) (sym (e₂ ∙ ap (λ (z : List Slot). noted z q Right x.share) e₁))
-      (subst (λ (z : Comparison). Onto z (noted (hung T h s q) q Right z.share) (slot_at T q).right) (sym f) core))
+      subst (Onto x T₂ next) (sym e₄) (subst (λ (z : ℕ). Onto x T₂ z (passed Right x.share k)) (sym e₃) (subst (λ (z : List Slot). Onto x z (slot_at T q).right (passed Right x.share k)) (sym (e₂ ∙ ap (λ (z : List Slot). noted z q Right x.share) e₁))
+      (subst (λ (z : Comparison). Onto z (noted (hung T h s q) q Right z.share) (slot_at T q).right (passed Right z.share k)) (sym f) core)))
 
-  abbrev pub Back : Comparison → List Slot → ℕ → Type 0
-  Back x T₂ next =
-      Going order symbol strip ceiling capacity w T₀ F T₂ next h s q Left (record { before = k.before; after = x.share })
+  abbrev pub Back : Comparison → List Slot → ℕ → Shares → Type 0
+  Back x T₂ next j =
+      Going order symbol strip ceiling capacity w T₀ F T₂ next h s q Left j
       × (span T₂ capacity next < span T capacity q)
 
   pub goes_before : q < capacity → (x : Comparison) → x ≡ compared_at order w (entry_at symbol T strip ceiling) T q k → is_gt x.answer ≡ false
-      → (T₁ T₂ : List Slot) → T₁ ≡ hung T h' s' q → T₂ ≡ noted T₁ q Left x.share → (next : ℕ) → next ≡ (slot_at T q).left → Back x T₂ next
-  goes_before held x e g T₁ T₂ e₁ e₂ next e₃ =
+      → (T₁ T₂ : List Slot) → T₁ ≡ hung T h' s' q → T₂ ≡ noted T₁ q Left x.share → (next : ℕ) → next ≡ (slot_at T q).left → (j : Shares) → j ≡ passed Left x.share k → Back x T₂ next j
+  goes_before held x e g T₁ T₂ e₁ e₂ next e₃ j e₄ =
       let f : x ≡ here = e ∙ step_is in
       let st = G.stage in
       let t = turn_before order entry ceiling capacity w F k.before k.after T q h s h' s' held st.0 (subst (λ (z : Comparison). is_gt z.answer ≡ false) f g) st.1 st.2 st.3 in
-      let core : Back here (noted (hung T h' s' q) q Left here.share) (slot_at T q).left =
+      let core : Back here (noted (hung T h' s' q) q Left here.share) (slot_at T q).left (passed Left here.share k) =
       (record { stage = t.0; words = words_after held h' s' Left here.share st.1.at'; before = G.before; after = share_within }, t.1) in
-      subst (Back x T₂) (sym e₃) (subst (λ (z : List Slot). Back x z (slot_at T q).left) (sym (e₂ ∙ ap (λ (z : List Slot). noted z q Left x.share) e₁))
-      (subst (λ (z : Comparison). Back z (noted (hung T h' s' q) q Left z.share) (slot_at T q).left) (sym f) core))
+      subst (Back x T₂ next) (sym e₄) (subst (λ (z : ℕ). Back x T₂ z (passed Left x.share k)) (sym e₃) (subst (λ (z : List Slot). Back x z (slot_at T q).left (passed Left x.share k)) (sym (e₂ ∙ ap (λ (z : List Slot). noted z q Left x.share) e₁))
+      (subst (λ (z : Comparison). Back z (noted (hung T h' s' q) q Left z.share) (slot_at T q).left (passed Left z.share k)) (sym f) core)))
 
 -- the start: both hooks on the place x, and the whole tree to part
 pub begin : (order : ℕ → ℕ → Ordering) {S : Type 0} (symbol : S → ℕ) (strip : List S) (ceiling capacity : ℕ) (w : List ℕ) (T : List Slot) (q x : ℕ) (k : Shares) (symbols : ℕ) (t : Rooted)

@@ -1,17 +1,25 @@
 -- The tree that stands in a table is the tree read from it.
-use Rattle.std.proofs.Common.{◌≡◌, ℕ, zero, suc, ◌+◌, ◌*◌, ◌/◌, ◌<◌, ◌≤◌, List, length, refl, inl, inr, zero-le, not-suc-le-zero, mul-le-mul_right, suc-mul, div-mul-le_self, arith}
+use Rattle.std.proofs.Common.{◌≡◌, ℕ, zero, suc, ◌+◌, ◌*◌, ◌/◌, ◌<◌, ◌≤◌, List, length, drop, refl, inl, inr, zero-le, not-suc-le-zero, mul-le-mul_right, suc-mul, div-mul-le_self, arith}
 use Rattle.std.proofs.lemmas.Bool.{lt-ltb, le-ltb}
+use Rattle.std.proofs.lemmas.List.{length-map, length-take}
 use Rattle.limits.specs.Capacity.{ceiling_for, capacity_for}
 use Rattle.rules.specs.Entries.{Entry}
 use Rattle.rules.specs.Trees.{top}
 use Rattle.slots.specs.declared.slot.Slot.{Slot}
-use Rattle.store.specs.Tables.{Rooted, leaf, node, size, In, Apart, Stands, Sound, slot_at, rooted_at, rooted, plain}
+use Rattle.store.specs.Tables.{Rooted, leaf, node, size, In, Apart, Stands, Sound, slot_at, stored_at, word_at, rooted_at, rooted, plain}
 
 -- an entry's word lies in the strip
 pub in_strip : (p capacity ceiling count symbols : ℕ) → p < capacity → count ≤ ceiling → capacity * ceiling ≤ symbols → p * ceiling + count ≤ symbols
 in_strip p capacity ceiling count symbols h k m =
     let e : suc p * ceiling ≤ capacity * ceiling = mul-le-mul_right ceiling h in
     let f : p * ceiling + ceiling ≤ capacity * ceiling = rw suc-mul at e in
+    omega arith
+
+-- it is no longer than its slot says
+pub stored_short : {S : Type 0} (symbol : S → ℕ) (table : List Slot) (strip : List S) (ceiling p : ℕ) → length (word_at symbol table strip ceiling p) ≤ (slot_at table p).length
+stored_short symbol table strip ceiling p =
+    let m = length-map (stored_at table strip ceiling p) symbol in
+    let t = length-take (slot_at table p).length (drop (p * ceiling) strip) in
     omega arith
 
 module _ (table : List Slot) (capacity : ℕ) where

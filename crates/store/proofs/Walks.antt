@@ -3,12 +3,21 @@ use Rattle.std.proofs.Common.{◌≡◌, ℕ, ◌+◌, ◌*◌, ◌<◌, ◌≤�
 use Rattle.words.specs.declared.comparison.Comparison.{Comparison}
 use Rattle.rules.specs.Entries.{Entry}
 use Rattle.rules.specs.Walks.{turned, Walked, after, lookup}
-use Rattle.slots.specs.declared.compare.Shares.{Shares}
+use Rattle.slots.specs.declared.search.Shares.{Shares}
 use Rattle.slots.specs.declared.slot.Slot.{Slot}
+use Rattle.slots.specs.declared.slot.Side.{Side}
+use Rattle.slots.specs.declared.slot.Side.TheVariants.{Left, Right}
+use Rattle.slots.specs.Searches.{passed}
 use Rattle.store.specs.Lookups.{compared_at, shares_at_end, WalkOf}
+use Rattle.store.specs.Unzips.{child_on}
 use Rattle.store.specs.Tables.{size, In, Stands, slot_at, rooted, plain}
 use Rattle.store.proofs.Bounds.{Within, compared_within}
 use Rattle.store.proofs.Tables.{Turn, turn, none}
+
+-- how a word stands to an entry that it passes on the way to a side
+abbrev pub toward : Side → Ordering
+toward Left = Less
+toward Right = Greater
 
 -- the place where a walk starts, and what it goes by
 module _ (order : ℕ → ℕ → Ordering) (w : List ℕ) (entry : ℕ → Entry) (table : List Slot) (capacity origin : ℕ) where
@@ -27,17 +36,19 @@ module _ (order : ℕ → ℕ → Ordering) (w : List ℕ) (entry : ℕ → Entr
     pub stands : Stands table capacity at (rooted table capacity at)
     pub low : met + size (rooted table capacity at) ≤ capacity
     pub inside : (p : ℕ) → In p (rooted table capacity at) → In p (rooted table capacity origin)
-    pub near_before : k.before ≤ length w
-    pub near_after : k.after ≤ length w
+    pub short : (p : ℕ) → In p (rooted table capacity origin) → length (entry p).word ≤ 1024
+    pub near_before : k.before ≤ 1024
+    pub near_after : k.after ≤ 1024
     pub paid : pairs ≤ 1024 * met
     pub many : length (walked origin begun).way ≡ met + length (walked at k).way
     pub looks : (walked origin begun).pairs ≡ pairs + (walked at k).pairs
     pub finds : (walked origin begun).found ≡ (walked at k).found
     pub ends : ended origin begun ≡ ended at k
 
-  pub begin : Stands table capacity origin (rooted table capacity origin) → size (rooted table capacity origin) ≤ capacity → Walking origin begun 0 0
-  begin s k = record {
+  pub begin : Stands table capacity origin (rooted table capacity origin) → size (rooted table capacity origin) ≤ capacity → ((p : ℕ) → In p (rooted table capacity origin) → length (entry p).word ≤ 1024) → Walking origin begun 0 0
+  begin s k f = record {
     stands = s;
+    short = f;
     low = omega arith;
     inside = λ p i. i;
     near_before = zero-le;
@@ -57,9 +68,12 @@ module _ {order : ℕ → ℕ → Ordering} {w : List ℕ} {entry : ℕ → Entr
     pub inside_here : In at (rooted table capacity origin)
     inside_here = h.inside at here_turn.here
 
-    pub within : Within (length w) (compared_at order w entry table at k)
+    pub within : Within 1024 (compared_at order w entry table at k)
     within =
-        compared_within order w (entry at).word (ltb k.after k.before) (max k.before k.after) (cond (ltb k.after k.before) (slot_at table at).left_length (slot_at table at).right_length) (omega arith)
+        let b = h.near_before in
+        let a = h.near_after in
+        let f = h.short at inside_here in
+        compared_within order w (entry at).word (ltb k.after k.before) (max k.before k.after) (cond (ltb k.after k.before) (slot_at table at).left_length (slot_at table at).right_length) 1024 (omega arith) (omega arith)
 
     module _ (c : Comparison) (e : c ≡ compared_at order w entry table at k) where
       -- the rest of the walk, by what is compared at the place
@@ -75,46 +89,46 @@ module _ {order : ℕ → ℕ → Ordering} {w : List ℕ} {entry : ℕ → Entr
           (ended order w entry table capacity origin (slot_at table at).right (record { before = c.share; after = k.after }))
       ended_by = rw (here_turn.tree, e)
 
-      -- one entry more is met, and the walk goes on at a place below
-      go_on : length w ≤ 1024 → (next : ℕ) (j : Shares)
-          → Stands table capacity next (rooted table capacity next) → size (rooted table capacity next) < size (rooted table capacity at) → ((p : ℕ) → In p (rooted table capacity next) → In p (rooted table capacity at))
-          → j.before ≤ length w → j.after ≤ length w → c.pairs ≤ length w
-          → walked order w entry table capacity origin at k ≡ after (entry at) c.pairs (walked order w entry table capacity origin next j)
-          → ended order w entry table capacity origin at k ≡ ended order w entry table capacity origin next j
-          → Walking order w entry table capacity origin next j (met + 1) (pairs + c.pairs)
-      go_on short next j stands smaller inside b a few v y =
-          let m = ap (λ (z : Walked). length z.way) v in
-          let q = ap (λ (z : Walked). z.pairs) v in
-          record {
-            stands = stands;
-            low = omega arith;
-            inside = λ p i. h.inside p (inside p i);
-            near_before = b;
-            near_after = a;
-            paid = omega arith;
-            many = omega arith;
-            looks = omega arith;
-            finds = h.finds ∙ ap (λ (z : Walked). z.found) v;
-            ends = h.ends ∙ y;
-          }
-
-      -- to the child on a side: what is left of the walk is less
+      -- to the child on a side: one entry more is met, and what is left of the walk is less
       abbrev pub Going : ℕ → Shares → Type 0
       Going next j = Walking order w entry table capacity origin next j (met + 1) (pairs + c.pairs) × (size (rooted table capacity next) < size (rooted table capacity at))
 
-      pub go_left : length w ≤ 1024 → c.answer ≡ Less → (next : ℕ) → next ≡ (slot_at table at).left → Going next (record { before = k.before; after = c.share })
-      go_left short a next same =
-          let t = here_turn in
-          let f : Within (length w) c = rw e within in
-          let j : Shares = record { before = k.before; after = c.share } in
-          subst (λ (z : ℕ). Going z j) (sym same) (go_on short (slot_at table at).left j t.stands_left t.smaller_left t.in_left h.near_before f.share f.pairs (rw a at walked_by) (rw a at ended_by), t.smaller_left)
+      go_on : (next : ℕ) (j : Shares)
+          → Stands table capacity next (rooted table capacity next) → size (rooted table capacity next) < size (rooted table capacity at) → ((p : ℕ) → In p (rooted table capacity next) → In p (rooted table capacity at))
+          → j.before ≤ 1024 → j.after ≤ 1024 → c.pairs ≤ 1024
+          → walked order w entry table capacity origin at k ≡ after (entry at) c.pairs (walked order w entry table capacity origin next j)
+          → ended order w entry table capacity origin at k ≡ ended order w entry table capacity origin next j
+          → Going next j
+      go_on next j stands smaller inside b a few v y =
+          let m = ap (λ (z : Walked). length z.way) v in
+          let q = ap (λ (z : Walked). z.pairs) v in (
+            record {
+              stands = stands;
+              low = omega arith;
+              inside = λ p i. h.inside p (inside p i);
+              short = h.short;
+              near_before = b;
+              near_after = a;
+              paid = omega arith;
+              many = omega arith;
+              looks = omega arith;
+              finds = h.finds ∙ ap (λ (z : Walked). z.found) v;
+              ends = h.ends ∙ y;
+            },
+            smaller,
+          )
 
-      pub go_right : length w ≤ 1024 → c.answer ≡ Greater → (next : ℕ) → next ≡ (slot_at table at).right → Going next (record { before = c.share; after = k.after })
-      go_right short a next same =
+      pub go : (side : Side) (next : ℕ) (j : Shares) → c.answer ≡ toward side → next ≡ child_on side (slot_at table at) → j ≡ passed side c.share k → Going next j
+      go Left next j a same is =
           let t = here_turn in
-          let f : Within (length w) c = rw e within in
-          let j : Shares = record { before = c.share; after = k.after } in
-          subst (λ (z : ℕ). Going z j) (sym same) (go_on short (slot_at table at).right j t.stands_right t.smaller_right t.in_right f.share h.near_after f.pairs (rw a at walked_by) (rw a at ended_by), t.smaller_right)
+          let f : Within 1024 c = rw e within in
+          let j₁ : Shares = record { before = k.before; after = c.share } in
+          subst (Going next) (sym is) (subst (λ (z : ℕ). Going z j₁) (sym same) (go_on (slot_at table at).left j₁ t.stands_left t.smaller_left t.in_left h.near_before f.share f.pairs (rw a at walked_by) (rw a at ended_by)))
+      go Right next j a same is =
+          let t = here_turn in
+          let f : Within 1024 c = rw e within in
+          let j₁ : Shares = record { before = c.share; after = k.after } in
+          subst (Going next) (sym is) (subst (λ (z : ℕ). Going z j₁) (sym same) (go_on (slot_at table at).right j₁ t.stands_right t.smaller_right t.in_right f.share h.near_after f.pairs (rw a at walked_by) (rw a at ended_by)))
 
       -- the walk ends at the word's own entry
       pub found_here : c.answer ≡ Equal → WalkOf order w entry (rooted table capacity origin) (record { found = Some at; met = met + 1; pairs = pairs + c.pairs; shares = k })

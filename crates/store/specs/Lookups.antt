@@ -7,7 +7,7 @@ use Rattle.rules.specs.Entries.{Entry}
 use Rattle.rules.specs.Trees.{Tree, nothing, top}
 use Rattle.rules.specs.Walks.{turned, compared, lookup}
 use Rattle.limits.specs.declared.refusal.Refusal.{Refusal}
-use Rattle.slots.specs.declared.compare.Shares.{Shares}
+use Rattle.slots.specs.declared.search.Shares.{Shares}
 use Rattle.store.specs.declared.lookup.Walk.{Walk}
 use Rattle.slots.specs.declared.slot.Slot.{Slot}
 use Rattle.slots.specs.Slots.{compared_with}

@@ -7,10 +7,10 @@ use crate::memory::Memory;
 use crate::unzip::unzip;
 use crate::writes::{Hook, hang, note};
 use kinds::kind::Ordered;
-use slots::compare::Shares;
+use slots::search::{Search, Shares};
 use slots::slot::{Side, Slot};
 use std::cmp::Ordering;
-use words::comparer::Comparer;
+use words::comparer::Counter;
 
 // Whether an entry met stays above a new one: it has more weight, or as much and the smaller word. The answer says how the new word stands to the met one.
 fn stays_above(met: u32, new: u32, answer: Ordering) -> bool
@@ -36,12 +36,7 @@ fn seat(table: &mut [Slot], above: Option<Hook>, place: u16, top: u16) -> u16
 
 // Puts a place into the tree. Its slot has its weight, tag and word length, and the strip its word.
 // It goes below all that stay above it on the way to its word, and what stood there is unzipped.
-pub(crate) fn attach<S: Ordered, C: Comparer<S>>(
-    memory: &mut Memory<S>,
-    word: &[S],
-    place: u16,
-    comparer: &mut C,
-)
+pub(crate) fn attach<S: Ordered>(memory: &mut Memory<S>, word: &[S], place: u16)
     requires free { FreeOf memory.old.table.now (length memory.old.strip.now) memory.old.limits.ceiling memory.old.limits.capacity place (places memory.old) memory.old.top }
     requires room { place < memory.old.limits.capacity }
     requires short { length word.now ≤ 1024 }
@@ -52,49 +47,36 @@ pub(crate) fn attach<S: Ordered, C: Comparer<S>>(
     let limits = memory.limits;
     let top = memory.top;
     let weight = memory.table[place as usize].weight;
+    let mut counter = Counter::new();
+    let mut search = Search::new(word, &mut counter);
     let mut above = None;
     let mut at = top;
-    let mut shares = Shares {
-        before: 0,
-        after: 0,
-    };
     while (at as usize) < limits.capacity() {
-        let step = memory.compare(at, word, shares, comparer);
+        let step = memory.compare(at, &mut search);
         if !stays_above(memory.table[at as usize].weight, weight, step.answer) {
             break;
         }
-        let hook = if step.answer.is_gt() {
-            shares.before = step.share;
-            Hook {
-                place: at,
-                side: Side::Right,
-            }
+        let side = if step.answer.is_gt() {
+            Side::Right
         } else {
-            shares.after = step.share;
-            Hook {
-                place: at,
-                side: Side::Left,
-            }
+            Side::Left
         };
+        search.pass(side, step.share);
+        let hook = Hook { place: at, side };
         above = Some(hook);
         at = memory.child(hook);
     }
-    unzip(memory, at, word, shares, place, comparer);
-    note(
-        memory.table,
-        Hook {
-            place,
-            side: Side::Left,
-        },
-        shares.before as u16,
-    );
-    note(
-        memory.table,
-        Hook {
-            place,
-            side: Side::Right,
-        },
-        shares.after as u16,
-    );
+    let Shares { before, after } = search.shares;
+    unzip(memory, at, &mut search, place);
+    let left = Hook {
+        place,
+        side: Side::Left,
+    };
+    let right = Hook {
+        place,
+        side: Side::Right,
+    };
+    note(memory.table, left, before as u16);
+    note(memory.table, right, after as u16);
     memory.top = seat(memory.table, above, place, top);
 }

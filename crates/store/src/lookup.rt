@@ -1,4 +1,4 @@
-ghost use Rattle.std.specs.Prelude.{◌≡◌, ◌+◌, ◌^◌, ◌<◌, ◌≤◌, map, length};
+ghost use Rattle.std.specs.Prelude.{map};
 ghost use Rattle.store.specs.Stores.{entry_of, places};
 ghost use Rattle.store.specs.Lookups.{WalkOf};
 ghost use Rattle.words.specs.Counting.{RaisedBy};
@@ -7,7 +7,7 @@ use crate::entry::Held;
 use crate::store::Store;
 use crate::writes::Hook;
 use kinds::kind::Ordered;
-use slots::compare::Shares;
+use slots::search::{Search, Shares};
 use slots::slot::Side;
 use std::cmp::Ordering;
 use words::comparer::Comparer;
@@ -36,53 +36,39 @@ pub struct Looked {
 impl<'a, S: Ordered> Store<'a, S> {
     // Walks down the tree to a word.
     pub(crate) fn find<C: Comparer<S>>(&self, word: &[S], comparer: &mut C) -> Walk
-        requires { length word.now ≤ 1024 }
         ensures walks { WalkOf S.Ordered.order (map S.Ordered.symbol word.now) (entry_of S.Ordered.symbol self.now.memory) (places self.now.memory) result }
         ensures asked { RaisedBy result.pairs (C.Comparer.asked comparer.old) (C.Comparer.asked comparer.new) }
     {
         let memory = &self.memory;
         let capacity = memory.limits.capacity();
+        let mut search = Search::new(word, comparer);
         let mut at = memory.top;
-        let mut shares = Shares {
-            before: 0,
-            after: 0,
-        };
         let mut met = 0;
         let mut pairs = 0;
         while (at as usize) < capacity {
-            let step = memory.compare(at, word, shares, comparer);
+            let step = memory.compare(at, &mut search);
             met += 1;
             pairs += step.pairs as u32;
-            match step.answer {
-                Ordering::Less => {
-                    at = memory.child(Hook {
-                        place: at,
-                        side: Side::Left,
-                    });
-                    shares.after = step.share;
-                }
-                Ordering::Greater => {
-                    at = memory.child(Hook {
-                        place: at,
-                        side: Side::Right,
-                    });
-                    shares.before = step.share;
-                }
+            let side = match step.answer {
+                Ordering::Less => Side::Left,
+                Ordering::Greater => Side::Right,
                 Ordering::Equal => {
                     return Walk {
                         found: Some(at),
                         met,
                         pairs,
-                        shares,
+                        shares: search.shares,
                     };
                 }
-            }
+            };
+            search.pass(side, step.share);
+            at = memory.child(Hook { place: at, side });
         }
         Walk {
             found: None,
             met,
             pairs,
-            shares,
+            shares: search.shares,
         }
     }
 }

@@ -1,5 +1,6 @@
 ghost use Rattle.std.specs.Prelude.{◌≡◌, ℕ, ◌<◌, map, length, Some};
 ghost use Rattle.std.specs.Option.{option_map};
+ghost use Rattle.slots.specs.Searches.{SameSearch};
 ghost use Rattle.store.specs.Tables.{slot_at, stored_at};
 ghost use Rattle.store.specs.Entries.{held_at, listed_at, listing};
 ghost use Rattle.store.specs.Stores.{InMemory, entry_of};
@@ -11,7 +12,7 @@ use crate::entry::{Entry, Held};
 use crate::writes::Hook;
 use kinds::kind::Ordered;
 use limits::bounds::Limits;
-use slots::compare::{Shares, compare_met};
+use slots::search::Search;
 use slots::slot::{Side, Slot};
 use words::comparer::Comparer;
 use words::comparison::Comparison;
@@ -86,15 +87,15 @@ impl<'a, S: Ordered> Memory<'a, S> {
     pub(crate) fn compare<C: Comparer<S>>(
         &self,
         place: u16,
-        word: &[S],
-        shares: Shares,
-        comparer: &mut C,
+        search: &mut Search<S, C>,
     ) -> Comparison
         requires { InMemory self.now place }
-        ensures value { result ≡ compared_at S.Ordered.order (map S.Ordered.symbol word.now) (entry_of S.Ordered.symbol self.now) self.now.table.now place shares }
-        ensures asked { RaisedBy result.pairs (C.Comparer.asked comparer.old) (C.Comparer.asked comparer.new) }
+        ensures value { result ≡ compared_at S.Ordered.order (map S.Ordered.symbol search.old.word.now) (entry_of S.Ordered.symbol self.now) self.now.table.now place search.old.shares }
+        ensures asked { RaisedBy result.pairs (C.Comparer.asked search.old.comparer.now) (C.Comparer.asked search.new.comparer.now) }
+        ensures shares { search.new.shares ≡ search.old.shares }
+        ensures same { SameSearch search.old search.new }
     {
         let slot = self.table[place as usize];
-        compare_met(&slot, self.word(place), word, shares, comparer)
+        search.meet(&slot, self.word(place))
     }
 }

@@ -8,7 +8,7 @@ ghost use Rattle.store.specs.Unzips.{one_on_side};
 use crate::store::Store;
 use crate::writes::Hook;
 use kinds::kind::Ordered;
-use slots::compare::Shares;
+use slots::search::Search;
 use slots::slot::Side;
 use std::cmp::Ordering;
 use words::comparer::Counter;
@@ -42,29 +42,23 @@ impl<'a, S: Ordered> Store<'a, S> {
         let memory = &self.memory;
         let capacity = memory.limits.capacity();
         let mut counter = Counter::new();
+        let mut search = Search::new(word, &mut counter);
         let mut best = None;
         let mut at = memory.top;
-        let mut shares = Shares {
-            before: 0,
-            after: 0,
-        };
         while (at as usize) < capacity {
-            let step = memory.compare(at, word, shares, &mut counter);
-            if turns_right(step.answer, side) {
+            let step = memory.compare(at, &mut search);
+            let onward = if turns_right(step.answer, side) {
                 best = on_side(side, Some(at), best);
-                shares.before = step.share;
-                at = memory.child(Hook {
-                    place: at,
-                    side: Side::Right,
-                });
+                Side::Right
             } else {
                 best = on_side(side, best, Some(at));
-                shares.after = step.share;
-                at = memory.child(Hook {
-                    place: at,
-                    side: Side::Left,
-                });
-            }
+                Side::Left
+            };
+            search.pass(onward, step.share);
+            at = memory.child(Hook {
+                place: at,
+                side: onward,
+            });
         }
         best
     }

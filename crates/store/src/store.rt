@@ -113,7 +113,6 @@ impl<'a, S: Ordered> Store<'a, S> {
 
     // Whether the lookup by steps finds a word.
     fn holds(&self, word: &[S]) -> bool
-        requires { length word.now ≤ 1024 }
         ensures { result ≡ is_some (steps S.Ordered.order (map S.Ordered.symbol word.now) 0 0 (tree S.Ordered.symbol self.now.memory)).found }
     {
         self.find(word, &mut Counter::new()).found.is_some()
@@ -129,6 +128,6 @@ fn fill<S: Ordered>(memory: &mut Memory<S>, word: &[S], weight: u32, tag: u32)
     let ceiling = memory.limits.ceiling();
     put_word(memory.strip, place as usize, ceiling, word);
     memory.table[place as usize] = Slot::unlinked(word.len() as u16, weight, tag);
-    attach(memory, word, place, &mut Counter::new());
+    attach(memory, word, place);
     memory.count = place + 1;
 }

@@ -1,4 +1,5 @@
 ghost use Rattle.std.specs.Prelude.{◌≡◌, ◌+◌, ◌≤◌, map, length};
+ghost use Rattle.slots.specs.Searches.{SameSearch};
 ghost use Rattle.store.specs.Stores.{TableAlone, entry_of};
 ghost use Rattle.store.specs.Tables.{rooted};
 ghost use Rattle.store.specs.Unzips.{FreeOf, Unzipped};
@@ -6,7 +7,7 @@ ghost use Rattle.store.specs.Unzips.{FreeOf, Unzipped};
 use crate::memory::Memory;
 use crate::writes::{Hook, hang, note};
 use kinds::kind::Ordered;
-use slots::compare::Shares;
+use slots::search::Search;
 use slots::slot::{NONE, Side};
 use words::comparer::Comparer;
 
@@ -15,17 +16,16 @@ use words::comparer::Comparer;
 pub(crate) fn unzip<S: Ordered, C: Comparer<S>>(
     memory: &mut Memory<S>,
     top: u16,
-    word: &[S],
-    mut shares: Shares,
+    search: &mut Search<S, C>,
     place: u16,
-    comparer: &mut C,
 )
     requires free { FreeOf memory.old.table.now (length memory.old.strip.now) memory.old.limits.ceiling memory.old.limits.capacity place (rooted memory.old.table.now memory.old.limits.capacity top) top }
-    requires before { shares.before ≤ length word.now }
-    requires after { shares.after ≤ length word.now }
-    requires short { length word.now ≤ 1024 }
-    ensures table { Unzipped S.Ordered.order (entry_of S.Ordered.symbol memory.old) memory.old.limits.capacity (map S.Ordered.symbol word.now) shares.before shares.after place (rooted memory.old.table.now memory.old.limits.capacity top) memory.old.table.now memory.new.table.now }
+    requires before { search.old.shares.before ≤ length search.old.word.now }
+    requires after { search.old.shares.after ≤ length search.old.word.now }
+    requires short { length search.old.word.now ≤ 1024 }
+    ensures table { Unzipped S.Ordered.order (entry_of S.Ordered.symbol memory.old) memory.old.limits.capacity (map S.Ordered.symbol search.old.word.now) search.old.shares.before search.old.shares.after place (rooted memory.old.table.now memory.old.limits.capacity top) memory.old.table.now memory.new.table.now }
     ensures rest { TableAlone memory.old memory.new }
+    ensures same { SameSearch search.old search.new }
 {
     let limits = memory.limits;
     let mut at = top;
@@ -38,7 +38,7 @@ pub(crate) fn unzip<S: Ordered, C: Comparer<S>>(
         side: Side::Right,
     };
     while (at as usize) < limits.capacity() {
-        let step = memory.compare(at, word, shares, comparer);
+        let step = memory.compare(at, search);
         let share = step.share as u16;
         if step.answer.is_gt() {
             let right = Hook {
@@ -49,7 +49,7 @@ pub(crate) fn unzip<S: Ordered, C: Comparer<S>>(
             hang(memory.table, low, at);
             note(memory.table, right, share);
             low = right;
-            shares.before = step.share;
+            search.pass(Side::Right, step.share);
             at = next;
         } else {
             let left = Hook {
@@ -60,7 +60,7 @@ pub(crate) fn unzip<S: Ordered, C: Comparer<S>>(
             hang(memory.table, high, at);
             note(memory.table, left, share);
             high = left;
-            shares.after = step.share;
+            search.pass(Side::Left, step.share);
             at = next;
         }
     }

@@ -2,20 +2,24 @@ use Rattle.std.proofs.Common.{◌+◌, ◌*◌, ◌≤◌, List, map, length, sy
 use Rattle.std.proofs.lemmas.List.{length-map}
 use Rattle.limits.specs.declared.bounds.Limits.{Limits}
 use Rattle.slots.specs.declared.slot.Slot.{Slot}
+use Rattle.slots.specs.declared.slot.Side.TheVariants.{Left, Right}
+use Rattle.slots.specs.Searches.{passed}
 use Rattle.store.specs.Stores.{entry_of}
 use Rattle.store.specs.Tables.{rooted, slot_at}
 use Rattle.store.specs.Unzips.{hung, Unzipped}
+use Rattle.store.proofs.Searching.{for_word}
 use Rattle.store.proofs.Parting.{begin, in_memory, hook_in, hook_in', share_fits, goes_after, goes_before, at_end, step_in}
 use Rattle.store.proofs.unzip.unzip.Goals as goal
 
 pub loop-at-init : goal.loop-at-init
 loop-at-init g c =
-    let l = length-map c.args.word.now g.S.Ordered.symbol in
+    let l = length-map c.args.search.now.word.now g.S.Ordered.symbol in
     let m = c.args.memory.now in (
-      begin g.S.Ordered.order g.S.Ordered.symbol m.strip.now m.limits.ceiling m.limits.capacity (map g.S.Ordered.symbol c.args.word.now) m.table.now c.args.top c.args.place c.args.shares
+      begin g.S.Ordered.order g.S.Ordered.symbol m.strip.now m.limits.ceiling m.limits.capacity (map g.S.Ordered.symbol c.args.search.now.word.now) m.table.now c.args.top c.args.place c.args.search.now.shares
           (length m.strip.now) (rooted m.table.now m.limits.capacity c.args.top) c.requires.free (omega arith) (omega arith),
       omega arith,
       record { strip = refl; limits = refl; top = refl; count = refl },
+      record { word = refl; comparer = refl },
     )
 
 pub overflow_cast-at : goal.overflow_cast-at
@@ -36,31 +40,33 @@ hang-requires g c = hook_in c.loop-at.invariant.0
 
 pub overflow_cast-share : goal.overflow_cast-share
 overflow_cast-share g c =
-    let s = share_fits c.loop-at.invariant.0 c.compare-step.result (c.compare-step.ensures.value ∙ step_in g.S.Ordered.order g.S.Ordered.symbol (map g.S.Ordered.symbol c.args.word.now) c.args.memory.now c.loop-at.memory c.loop-at.at c.loop-at.shares c.loop-at.invariant.2) in
-    let l = length-map c.args.word.now g.S.Ordered.symbol in
+    let s = share_fits c.loop-at.invariant.0 c.compare-step.result (for_word g.S.Ordered.order g.S.Ordered.symbol c.loop-at.memory c.loop-at.at c.loop-at.search.shares c.compare-step.ensures.value c.loop-at.invariant.3.word ∙ step_in g.S.Ordered.order g.S.Ordered.symbol (map g.S.Ordered.symbol c.args.search.now.word.now) c.args.memory.now c.loop-at.memory c.loop-at.at c.loop-at.search.shares c.loop-at.invariant.2) in
+    let l = length-map c.args.search.now.word.now g.S.Ordered.symbol in
     omega arith
 
 pub loop-at-smaller-then-is_gt : goal.loop-at-smaller-then-is_gt
-loop-at-smaller-then-is_gt g c = (goes_after c.loop-at.invariant.0 (omega arith) c.compare-step.result (c.compare-step.ensures.value ∙ step_in g.S.Ordered.order g.S.Ordered.symbol (map g.S.Ordered.symbol c.args.word.now) c.args.memory.now c.loop-at.memory c.loop-at.at c.loop-at.shares c.loop-at.invariant.2) (sym c.is_gt.ensures ∙ c.if-is_gt.true) c.hang.new.table c.note.new.table c.hang.ensures c.note.ensures c.child-next.result c.child-next.ensures).1
+loop-at-smaller-then-is_gt g c = (goes_after c.loop-at.invariant.0 (omega arith) c.compare-step.result (for_word g.S.Ordered.order g.S.Ordered.symbol c.loop-at.memory c.loop-at.at c.loop-at.search.shares c.compare-step.ensures.value c.loop-at.invariant.3.word ∙ step_in g.S.Ordered.order g.S.Ordered.symbol (map g.S.Ordered.symbol c.args.search.now.word.now) c.args.memory.now c.loop-at.memory c.loop-at.at c.loop-at.search.shares c.loop-at.invariant.2) (sym c.is_gt.ensures ∙ c.if-is_gt.true) c.hang.new.table c.note.new.table c.hang.ensures c.note.ensures c.child-next.result c.child-next.ensures c.pass.new.self.shares (c.pass.ensures.shares ∙ ap (passed Right c.compare-step.result.share) c.compare-step.ensures.shares)).1
 
 pub loop-at-preserved-then-is_gt : goal.loop-at-preserved-then-is_gt
 loop-at-preserved-then-is_gt g c = (
-  (goes_after c.loop-at.invariant.0 (omega arith) c.compare-step.result (c.compare-step.ensures.value ∙ step_in g.S.Ordered.order g.S.Ordered.symbol (map g.S.Ordered.symbol c.args.word.now) c.args.memory.now c.loop-at.memory c.loop-at.at c.loop-at.shares c.loop-at.invariant.2) (sym c.is_gt.ensures ∙ c.if-is_gt.true) c.hang.new.table c.note.new.table c.hang.ensures c.note.ensures c.child-next.result c.child-next.ensures).0,
+  (goes_after c.loop-at.invariant.0 (omega arith) c.compare-step.result (for_word g.S.Ordered.order g.S.Ordered.symbol c.loop-at.memory c.loop-at.at c.loop-at.search.shares c.compare-step.ensures.value c.loop-at.invariant.3.word ∙ step_in g.S.Ordered.order g.S.Ordered.symbol (map g.S.Ordered.symbol c.args.search.now.word.now) c.args.memory.now c.loop-at.memory c.loop-at.at c.loop-at.search.shares c.loop-at.invariant.2) (sym c.is_gt.ensures ∙ c.if-is_gt.true) c.hang.new.table c.note.new.table c.hang.ensures c.note.ensures c.child-next.result c.child-next.ensures c.pass.new.self.shares (c.pass.ensures.shares ∙ ap (passed Right c.compare-step.result.share) c.compare-step.ensures.shares)).0,
   omega arith,
   (let a = c.loop-at.invariant.2 in record { strip = a.strip; limits = a.limits; top = a.top; count = a.count }),
+  (let a = c.loop-at.invariant.3 in record { word = c.pass.ensures.same.word ∙ c.compare-step.ensures.same.word ∙ a.word; comparer = c.pass.ensures.same.comparer ∙ c.compare-step.ensures.same.comparer ∙ a.comparer }),
 )
 
 pub hang-requires-else-is_gt : goal.hang-requires-else-is_gt
 hang-requires-else-is_gt g c = hook_in' c.loop-at.invariant.0
 
 pub loop-at-smaller : goal.loop-at-smaller
-loop-at-smaller g c = (goes_before c.loop-at.invariant.0 (omega arith) c.compare-step.result (c.compare-step.ensures.value ∙ step_in g.S.Ordered.order g.S.Ordered.symbol (map g.S.Ordered.symbol c.args.word.now) c.args.memory.now c.loop-at.memory c.loop-at.at c.loop-at.shares c.loop-at.invariant.2) (sym c.is_gt.ensures ∙ c.if-is_gt.false) c.hang-else-is_gt.new.table c.note-else-is_gt.new.table c.hang-else-is_gt.ensures c.note-else-is_gt.ensures c.child-next-else-is_gt.result c.child-next-else-is_gt.ensures).1
+loop-at-smaller g c = (goes_before c.loop-at.invariant.0 (omega arith) c.compare-step.result (for_word g.S.Ordered.order g.S.Ordered.symbol c.loop-at.memory c.loop-at.at c.loop-at.search.shares c.compare-step.ensures.value c.loop-at.invariant.3.word ∙ step_in g.S.Ordered.order g.S.Ordered.symbol (map g.S.Ordered.symbol c.args.search.now.word.now) c.args.memory.now c.loop-at.memory c.loop-at.at c.loop-at.search.shares c.loop-at.invariant.2) (sym c.is_gt.ensures ∙ c.if-is_gt.false) c.hang-else-is_gt.new.table c.note-else-is_gt.new.table c.hang-else-is_gt.ensures c.note-else-is_gt.ensures c.child-next-else-is_gt.result c.child-next-else-is_gt.ensures c.pass-else-is_gt.new.self.shares (c.pass-else-is_gt.ensures.shares ∙ ap (passed Left c.compare-step.result.share) c.compare-step.ensures.shares)).1
 
 pub loop-at-preserved : goal.loop-at-preserved
 loop-at-preserved g c = (
-  (goes_before c.loop-at.invariant.0 (omega arith) c.compare-step.result (c.compare-step.ensures.value ∙ step_in g.S.Ordered.order g.S.Ordered.symbol (map g.S.Ordered.symbol c.args.word.now) c.args.memory.now c.loop-at.memory c.loop-at.at c.loop-at.shares c.loop-at.invariant.2) (sym c.is_gt.ensures ∙ c.if-is_gt.false) c.hang-else-is_gt.new.table c.note-else-is_gt.new.table c.hang-else-is_gt.ensures c.note-else-is_gt.ensures c.child-next-else-is_gt.result c.child-next-else-is_gt.ensures).0,
+  (goes_before c.loop-at.invariant.0 (omega arith) c.compare-step.result (for_word g.S.Ordered.order g.S.Ordered.symbol c.loop-at.memory c.loop-at.at c.loop-at.search.shares c.compare-step.ensures.value c.loop-at.invariant.3.word ∙ step_in g.S.Ordered.order g.S.Ordered.symbol (map g.S.Ordered.symbol c.args.search.now.word.now) c.args.memory.now c.loop-at.memory c.loop-at.at c.loop-at.search.shares c.loop-at.invariant.2) (sym c.is_gt.ensures ∙ c.if-is_gt.false) c.hang-else-is_gt.new.table c.note-else-is_gt.new.table c.hang-else-is_gt.ensures c.note-else-is_gt.ensures c.child-next-else-is_gt.result c.child-next-else-is_gt.ensures c.pass-else-is_gt.new.self.shares (c.pass-else-is_gt.ensures.shares ∙ ap (passed Left c.compare-step.result.share) c.compare-step.ensures.shares)).0,
   omega arith,
   (let a = c.loop-at.invariant.2 in record { strip = a.strip; limits = a.limits; top = a.top; count = a.count }),
+  (let a = c.loop-at.invariant.3 in record { word = c.pass-else-is_gt.ensures.same.word ∙ c.compare-step.ensures.same.word ∙ a.word; comparer = c.pass-else-is_gt.ensures.same.comparer ∙ c.compare-step.ensures.same.comparer ∙ a.comparer }),
 )
 
 pub hang-requires-2 : goal.hang-requires-2
@@ -73,8 +79,9 @@ pub returns : goal.returns
 returns g c =
     let m = c.args.memory.now in
     record {
-      table = subst (Unzipped g.S.Ordered.order (entry_of g.S.Ordered.symbol m) m.limits.capacity (map g.S.Ordered.symbol c.args.word.now) c.args.shares.before c.args.shares.after c.args.place (rooted m.table.now m.limits.capacity c.args.top) m.table.now)
+      table = subst (Unzipped g.S.Ordered.order (entry_of g.S.Ordered.symbol m) m.limits.capacity (map g.S.Ordered.symbol c.args.search.now.word.now) c.args.search.now.shares.before c.args.search.now.shares.after c.args.place (rooted m.table.now m.limits.capacity c.args.top) m.table.now)
           (ap (λ (T : List Slot). hung T c.loop-at.high.place c.loop-at.high.side 65535) (sym c.hang-2.ensures) ∙ sym c.hang-3.ensures)
           (at_end c.loop-at.invariant.0 (omega arith) 65535 (let f = c.requires.free.few in omega arith));
       rest = (let a = c.loop-at.invariant.2 in record { strip = a.strip; limits = a.limits; top = a.top; count = a.count });
+      same = c.loop-at.invariant.3;
     }

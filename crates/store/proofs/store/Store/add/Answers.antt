@@ -11,12 +11,6 @@ use Rattle.store.proofs.Props.{filled_out}
 use Rattle.store.proofs.Answering.{word_refused, word_held, capacity_reached, entry_added}
 use Rattle.store.proofs.store.Store.add.Goals as goal
 
-pub holds-requires : goal.holds-requires
-holds-requires g c =
-    let s = (filled_out c.args.self.now.filled).sound.short in
-    let f = word_fits c.args.self.now.memory.limits _ (sym c.in_ok-check_word.ensures) in
-    omega arith
-
 pub fill-requires : goal.fill-requires
 fill-requires g c = record {
   filled = filled_out c.args.self.now.filled;

@@ -1,49 +1,65 @@
-use Rattle.std.proofs.Common.{◌<◌, map, length, sym, ◌∙◌, arith}
+use Rattle.std.proofs.Common.{◌<◌, None, map, length, sym, ap, ◌∙◌, subst, arith}
+use Rattle.slots.specs.declared.search.Shares.{Shares}
+use Rattle.slots.specs.Searches.{passed}
 use Rattle.store.specs.Stores.{entry_of}
 use Rattle.store.specs.Tables.{slot_at}
-use Rattle.store.proofs.Nearing.{Going, begin, go_left, go_right, inside_here, over}
+use Rattle.store.proofs.Nearing.{Going, Nearing, begin, go, best_after, to_right, inside_here, over}
 use Rattle.store.proofs.Props.{filled_out}
+use Rattle.store.proofs.Searching.{for_word}
 use Rattle.store.proofs.Tables.{in_strip}
 use Rattle.store.proofs.store.Store.nearest.Given as given
 use Rattle.store.proofs.store.Store.nearest.Goals as goal
+use Rattle.store.proofs.store.Store.nearest.Goals.{then-turns_right, else-turns_right}
 
 pub loop-at-init : goal.loop-at-init
-loop-at-init g c = (
-  begin g.S.Ordered.order c.args.side (map g.S.Ordered.symbol c.args.word.now) (entry_of g.S.Ordered.symbol c.args.self.now.memory) c.args.self.now.memory.table.now c.args.self.now.memory.limits.capacity c.args.self.now.memory.top
-      (filled_out c.args.self.now.filled).sound.stands (filled_out c.args.self.now.filled).sound.fits,
-  omega arith,
-)
+loop-at-init g c =
+    let m = c.args.self.now.memory in
+    let sound = (filled_out c.args.self.now.filled).sound in (
+      subst (λ (k : Shares). Nearing g.S.Ordered.order c.args.side (map g.S.Ordered.symbol c.args.word.now) (entry_of g.S.Ordered.symbol m) m.table.now m.limits.capacity m.top m.top k None) (sym c.new-search.ensures.nothing_met)
+          (begin g.S.Ordered.order c.args.side (map g.S.Ordered.symbol c.args.word.now) (entry_of g.S.Ordered.symbol m) m.table.now m.limits.capacity m.top sound.stands sound.fits),
+      record { word = λ i. c.new-search.result.word; comparer = λ i. c.new-search.result.comparer.ghost_name },
+      omega arith,
+    )
 
 pub compare-step-requires : goal.compare-step-requires
 compare-step-requires g c =
+    let m = c.args.self.now.memory in
     let sound = (filled_out c.args.self.now.filled).sound in
     let room = sound.room in
-    let below : c.loop-at.at < c.args.self.now.memory.limits.capacity = omega arith in
+    let below : c.loop-at.at < m.limits.capacity = omega arith in
     record {
       slot = omega arith;
-      word = in_strip c.loop-at.at c.args.self.now.memory.limits.capacity c.args.self.now.memory.limits.ceiling (slot_at c.args.self.now.memory.table.now c.loop-at.at).length (length c.args.self.now.memory.strip.now)
+      word = in_strip c.loop-at.at m.limits.capacity m.limits.ceiling (slot_at m.table.now c.loop-at.at).length (length m.strip.now)
           below (sound.words c.loop-at.at (inside_here c.loop-at.invariant.0 below)) sound.strip;
     }
 
-to_right : (g : given.Over) (c : goal.After-child-at g) → Going c.loop-at.invariant.0 (omega arith) c.compare-step.result c.compare-step.ensures.value c.child-at.result (record { before = c.compare-step.result.share; after = c.loop-at.shares.after }) c.on_side-best.result
-to_right g c =
-    go_right c.loop-at.invariant.0 (omega arith) c.compare-step.result c.compare-step.ensures.value (sym c.turns_right.ensures ∙ c.if-turns_right.true) c.child-at.result c.child-at.ensures c.on_side-best.result c.on_side-best.ensures
+pub child-at-requires : goal.child-at-requires
+child-at-requires g c = omega (arith, (filled_out c.args.self.now.filled).sound.room)
 
-to_left : (g : given.Over) (c : goal.After-child-at-else-turns_right g) → Going c.loop-at.invariant.0 (omega arith) c.compare-step.result c.compare-step.ensures.value c.child-at-else-turns_right.result (record { before = c.loop-at.shares.before; after = c.compare-step.result.share }) c.on_side-best-else-turns_right.result
-to_left g c =
-    go_left c.loop-at.invariant.0 (omega arith) c.compare-step.result c.compare-step.ensures.value (sym c.turns_right.ensures ∙ c.if-turns_right.false) c.child-at-else-turns_right.result c.child-at-else-turns_right.ensures c.on_side-best-else-turns_right.result c.on_side-best-else-turns_right.ensures
-
-pub loop-at-smaller-then-turns_right : goal.loop-at-smaller-then-turns_right
-loop-at-smaller-then-turns_right g c = (to_right g c).1
-
-pub loop-at-preserved-then-turns_right : goal.loop-at-preserved-then-turns_right
-loop-at-preserved-then-turns_right g c = ((to_right g c).0, omega arith)
+-- to the side that the walk turns to
+onward : (g : given.Over) (c : goal.After-child-at g) → Going c.loop-at.invariant.0 (omega arith) c.compare-step.result (for_word g.S.Ordered.order g.S.Ordered.symbol c.args.self.now.memory c.loop-at.at c.loop-at.search.shares c.compare-step.ensures.value (c.loop-at.invariant.1.word ∙ c.new-search.ensures.word_is)) c.child-at.result c.pass.new.self.shares c.if-turns_right.best
+onward g c =
+    let e = for_word g.S.Ordered.order g.S.Ordered.symbol c.args.self.now.memory c.loop-at.at c.loop-at.search.shares c.compare-step.ensures.value (c.loop-at.invariant.1.word ∙ c.new-search.ensures.word_is) in
+    let h = c.loop-at.invariant.0 in
+    let shares = c.pass.ensures.shares ∙ ap (passed c.if-turns_right.onward c.compare-step.result.share) c.compare-step.ensures.shares in
+    elim c.if-turns_right.branch [
+      | then-turns_right w ↦ go h (omega arith) c.compare-step.result e c.if-turns_right.onward c.child-at.result c.pass.new.self.shares c.if-turns_right.best
+          (sym c.turns_right.ensures ∙ w.if-turns_right.true ∙ ap to_right (sym w.onward-is)) c.child-at.ensures shares
+          (w.best-is ∙ w.on_side-best.ensures ∙ ap (best_after h (omega arith) c.compare-step.result e) (sym w.onward-is))
+      | else-turns_right w ↦ go h (omega arith) c.compare-step.result e c.if-turns_right.onward c.child-at.result c.pass.new.self.shares c.if-turns_right.best
+          (sym c.turns_right.ensures ∙ w.if-turns_right.false ∙ ap to_right (sym w.onward-is)) c.child-at.ensures shares
+          (w.best-is ∙ w.on_side-best-else-turns_right.ensures ∙ ap (best_after h (omega arith) c.compare-step.result e) (sym w.onward-is))
+    ]
 
 pub loop-at-smaller : goal.loop-at-smaller
-loop-at-smaller g c = (to_left g c).1
+loop-at-smaller g c = (onward g c).1
 
 pub loop-at-preserved : goal.loop-at-preserved
-loop-at-preserved g c = ((to_left g c).0, omega arith)
+loop-at-preserved g c = (
+  (onward g c).0,
+  record { word = c.pass.ensures.same.word ∙ c.compare-step.ensures.same.word ∙ c.loop-at.invariant.1.word; comparer = c.pass.ensures.same.comparer ∙ c.compare-step.ensures.same.comparer ∙ c.loop-at.invariant.1.comparer },
+  omega arith,
+)
 
 pub returns : goal.returns
 returns g c = record { entry = over c.loop-at.invariant.0 (omega arith); held = c.loop-at.invariant.0.best_in }

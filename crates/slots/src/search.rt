@@ -1,0 +1,113 @@
+ghost use Rattle.std.specs.Prelude.{◌≡◌, map};
+ghost use Rattle.rules.specs.Walks.{compared};
+ghost use Rattle.slots.specs.Searches.{Begun, SameSearch, passed};
+ghost use Rattle.slots.specs.Slots.{compared_with};
+ghost use Rattle.words.specs.Counting.{RaisedBy};
+
+use crate::slot::{Side, Slot};
+use kinds::kind::Ordered;
+use std::cmp::Ordering;
+use words::comparer::Comparer;
+use words::comparison::{Comparison, compare_from};
+
+// What a sought word shares with the nearest entries met before and after it, 0 without one.
+#[derive(Clone, Copy, Debug, PartialEq, Eq)]
+pub struct Shares {
+    pub before: usize,
+    pub after: usize,
+}
+
+// A search for a word: what the word shares with the nearest entries met so far, and the comparer that is asked.
+#[derive(Drop)]
+pub struct Search<'w, 'c, S, C> {
+    pub word: &'w [S],
+    pub shares: Shares,
+    pub comparer: &'c mut C,
+}
+
+// Compares a sought word with a held one by what they share with a third, which stands before both or else after both.
+// The sought one shares `kept` symbols with it, the held one `stored`. If these are equal, the two words are compared from there on.
+fn compare_by_lengths<S: Ordered, C: Comparer<S>>(
+    word: &[S],
+    held: &[S],
+    is_before: bool,
+    kept: usize,
+    stored: usize,
+    comparer: &mut C,
+) -> Comparison
+    ensures value { result ≡ compared S.Ordered.order (map S.Ordered.symbol word.now) (map S.Ordered.symbol held.now) is_before kept stored }
+    ensures asked { RaisedBy result.pairs (C.Comparer.asked comparer.old) (C.Comparer.asked comparer.new) }
+{
+    let nearer = if is_before {
+        Ordering::Less
+    } else {
+        Ordering::Greater
+    };
+    match stored.cmp(&kept) {
+        Ordering::Less => Comparison {
+            answer: nearer,
+            share: stored,
+            pairs: 0,
+        },
+        Ordering::Equal => compare_from(word, held, kept, comparer),
+        Ordering::Greater => Comparison {
+            answer: nearer.reverse(),
+            share: kept,
+            pairs: 0,
+        },
+    }
+}
+
+impl<'w, 'c, S: Ordered, C: Comparer<S>> Search<'w, 'c, S, C> {
+    // A search that has met no entry.
+    pub fn new(word: &'w [S], comparer: &'c mut C) -> Self
+        ensures { Begun word.entry comparer.entry result }
+    {
+        Search {
+            word,
+            shares: Shares {
+                before: 0,
+                after: 0,
+            },
+            comparer,
+        }
+    }
+
+    // Compares the word with an entry that is met: its slot and its word.
+    // The side before counts if the word shares more with the nearest entry met there, else the side after.
+    pub fn meet(&mut self, slot: &Slot, held: &[S]) -> Comparison
+        ensures value { result ≡ compared_with S.Ordered.order (map S.Ordered.symbol self.old.word.now) (map S.Ordered.symbol held.now) slot.now self.old.shares }
+        ensures asked { RaisedBy result.pairs (C.Comparer.asked self.old.comparer.now) (C.Comparer.asked self.new.comparer.now) }
+        ensures shares { self.new.shares ≡ self.old.shares }
+        ensures same { SameSearch self.old self.new }
+    {
+        let Shares { before, after } = self.shares;
+        let is_before = after < before;
+        let kept = before.max(after);
+        let stored = if is_before {
+            slot.left_length
+        } else {
+            slot.right_length
+        };
+        compare_by_lengths(
+            self.word,
+            held,
+            is_before,
+            kept,
+            stored as usize,
+            self.comparer,
+        )
+    }
+
+    // Goes on to a side of an entry, and keeps what the word shares with that entry.
+    pub fn pass(&mut self, side: Side, share: usize)
+        ensures shares { self.new.shares ≡ passed side share self.old.shares }
+        ensures comparer { self.new.comparer.now ≡ self.old.comparer.now }
+        ensures same { SameSearch self.old self.new }
+    {
+        match side {
+            Side::Left => self.shares.after = share,
+            Side::Right => self.shares.before = share,
+        }
+    }
+}
