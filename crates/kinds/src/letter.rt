@@ -1,4 +1,6 @@
-ghost use Rattle.std.specs.Prelude.{◌<◌};
+ghost use Rattle.std.specs.Prelude.{◌≡◌, ◌<◌, Some, refl};
+ghost use Rattle.kinds.specs.Codecs.{GivesBelow};
+ghost use Rattle.kinds.specs.Orders.{number_order};
 
 use crate::kind::{NoSuchSymbol, Ordered, Written};
 use std::cmp::Ordering;
@@ -16,10 +18,9 @@ pub struct Letter {
 
 // The letter of a code point, or an error where the number is no code point.
 impl TryFrom<u32> for Letter {
-    type Error = NoSuchSymbol;
-
-    ghost use Rattle.kinds.specs.Codecs.{GivesBelow};
     ghost use Rattle.kinds.specs.Letters.{code_point};
+
+    type Error = NoSuchSymbol;
 
     ghost try_from_gives = { GivesBelow 1114112 code_point };
 
@@ -34,7 +35,6 @@ impl TryFrom<u32> for Letter {
 
 // The code point.
 impl From<Letter> for u32 {
-    ghost use Rattle.std.specs.Prelude.{◌≡◌};
     ghost use Rattle.kinds.specs.Letters.{code_point};
 
     ghost from_gives = { λ letter code. code ≡ code_point letter };
@@ -46,7 +46,6 @@ impl From<Letter> for u32 {
 
 // The code point in decimal.
 impl fmt::Display for Letter {
-    ghost use Rattle.std.specs.Prelude.{Some};
     ghost use Rattle.kinds.specs.Letters.{letter_text};
 
     ghost output = { λ letter. Some (letter_text letter) };
@@ -58,7 +57,6 @@ impl fmt::Display for Letter {
 
 impl Ordered for Letter {
     ghost use Rattle.kinds.specs.Letters.{code_point};
-    ghost use Rattle.kinds.specs.Orders.{number_order};
     ghost use Rattle.kinds.specs.Laws.{number_order_lawful};
 
     ghost symbol = { code_point };
@@ -73,7 +71,6 @@ impl Ordered for Letter {
 }
 
 impl Written for Letter {
-    ghost use Rattle.std.specs.Prelude.{refl};
     ghost use Rattle.kinds.specs.Letters.{letters};
     ghost use Rattle.kinds.specs.Laws.{each_letter, letters_faithful};
 
