@@ -85,6 +85,16 @@ fn a_lift_comes_before_every_move(rt: HostRuntime) -> Result<(), Fail> {
 }
 
 #[test]
+fn symbols_are_printed_by_their_numbers(rt: HostRuntime) -> Result<(), Fail> {
+    let letter = Letter::try_from(65)?;
+    let moved = PenElement::moved(3, 1)?;
+    let lift = PenElement::Lift;
+    let text = format!(in rt.alloc(); "{letter} {moved} {lift}")?;
+    assert_eq!(rt; text.as_str(), "65 3/1 0");
+    Ok(())
+}
+
+#[test]
 fn words_are_compared_from_a_position(rt: HostRuntime) -> Result<(), Fail> {
     let inky = letters(rt.alloc(), "INKY")?;
     let inkwell = letters(rt.alloc(), "INKWELL")?;

@@ -11,7 +11,7 @@ use std::cmp::Ordering;
 use std::fmt;
 
 // The direction of a move, 0 to 15. The rules number the directions and name them no further.
-#[derive(Clone, Copy, Debug, PartialEq, Eq, PartialOrd, Ord, Hash)]
+#[derive(Clone, Copy, Debug, PartialEq, Eq, Hash)]
 pub enum Direction {
     D0,
     D1,
@@ -69,7 +69,7 @@ impl From<Direction> for u8 {
 }
 
 // The length class of a move, 0 to 3.
-#[derive(Clone, Copy, Debug, PartialEq, Eq, PartialOrd, Ord, Hash)]
+#[derive(Clone, Copy, Debug, PartialEq, Eq, Hash)]
 pub enum LengthClass {
     C0,
     C1,
@@ -103,7 +103,7 @@ impl From<LengthClass> for u8 {
 }
 
 // What a pen does: it is lifted, or it moves.
-#[derive(Clone, Copy, Debug, PartialEq, Eq, PartialOrd, Ord, Hash)]
+#[derive(Clone, Copy, Debug, PartialEq, Eq, Hash)]
 pub enum PenElement {
     Lift,
     Move {
@@ -170,9 +170,9 @@ impl Ordered for PenElement {
 
     ghost lawful = { number_order_lawful };
 
-    #[tactic(auto, using(crate::proofs::PenOrder::by_number))]
+    // By number: a derived order tests variant after variant, and takes about twice the time.
     fn compare(&self, other: &PenElement) -> Ordering {
-        self.cmp(other)
+        u8::from(*self).cmp(&u8::from(*other))
     }
 }
 
