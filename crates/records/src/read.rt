@@ -31,8 +31,9 @@ pub fn read_head(sheet: &[u8], at: usize) -> Result<Head, Refusal>
     ensures value { answered (λ h. h) result ≡ head_at sheet.now at }
     ensures within { HeadWithin at sheet.now result }
 {
-    let mark = Mark::try_from(front::<2>(sheet, at)?);
-    match mark.map_err(|_| Refusal::MarkImpossible { place: at })? {
+    let bytes = front::<2>(sheet, at)?;
+    let mark = Mark::try_from(bytes).map_err(|_| Refusal::MarkImpossible { place: at })?;
+    match mark {
         Mark::Closing => {
             let head = front::<4>(sheet, at)?;
             Ok(Head::ClosingHead {
