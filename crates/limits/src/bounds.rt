@@ -22,7 +22,7 @@ impl Limits {
     pub fn new(table: usize, strip: usize, ceiling: usize) -> Limits
         ensures { result ≡ limits_for table strip ceiling }
     {
-        let ceiling = ceiling.max(1).min(HIGHEST_CEILING);
+        let ceiling = ceiling.clamp(1, HIGHEST_CEILING);
         let capacity = table.min(strip / ceiling).min(HIGHEST_CAPACITY);
         Limits { ceiling, capacity }
     }

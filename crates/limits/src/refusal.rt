@@ -1,10 +1,11 @@
 ghost use Rattle.std.specs.Prelude.{◌≡◌, Some};
 ghost use Rattle.limits.specs.Refusals.{refusal_text, told};
 
+use std::error::Error;
 use std::fmt;
 
 // Why a call is refused. A post that finds its tally full is refused with 10 by a type of its own, which gives the slip back.
-#[derive(Clone, Copy, Debug)]
+#[derive(Clone, Copy, Debug, PartialEq, Eq)]
 pub enum Refusal {
     // a word or an opening without symbols
     NoSymbols,
@@ -44,7 +45,7 @@ pub enum Refusal {
     ClosingWrong { place: usize },
 }
 
-// What comes with a refusal.
+// What comes with a refusal. No Option says it: a length and a place are both numbers, and a caller tells them apart.
 #[derive(Clone, Copy, Debug, PartialEq, Eq)]
 pub enum Detail {
     Nothing,
@@ -85,8 +86,8 @@ impl Refusal {
     pub fn detail(&self) -> Detail
         ensures { result ≡ (told self.now).detail }
     {
-        match self {
-            Refusal::BufferShort { length } => Detail::Length(*length),
+        match *self {
+            Refusal::BufferShort { length } => Detail::Length(length),
             Refusal::RecordEnds { place }
             | Refusal::MarkImpossible { place }
             | Refusal::WordLength { place }
@@ -95,7 +96,7 @@ impl Refusal {
             | Refusal::OutOfOrder { place }
             | Refusal::NotOutranked { place }
             | Refusal::WrongLength { place }
-            | Refusal::ClosingWrong { place } => Detail::Place(*place),
+            | Refusal::ClosingWrong { place } => Detail::Place(place),
             _ => Detail::Nothing,
         }
     }
@@ -114,3 +115,5 @@ impl fmt::Display for Refusal {
         }
     }
 }
+
+impl Error for Refusal {}

@@ -4,14 +4,14 @@ use Rattle.std.proofs.ByRecursion.{All-take, All-drop}
 use Rattle.std.proofs.lemmas.List.{take_at, drop-drop, length-take-le, length-drop, length-append}
 use Rattle.kinds.specs.Bytes.{Bytes}
 use Rattle.kinds.specs.Numbers.{number_high_first}
-use Rattle.limits.specs.Refusals.{Told, refused_at}
+use Rattle.limits.specs.Refusals.{Told}
 use Rattle.records.specs.declared.record.Head.{Head}
 use Rattle.records.specs.declared.record.Head.TheVariants.{EntryHead, ClosingHead}
 use Rattle.records.specs.declared.record.Numbers.{Numbers}
 use Rattle.records.specs.Marks.{child_code, mark_of}
 use Rattle.records.specs.Records.{Content, entry, closing, head_bytes, closing_bytes, record_bytes, Proper}
 use Rattle.records.specs.Reading.{Read, field, after_mark, head_in, head_at, with_symbols, record_in, record_at, ReadsExactly}
-use Rattle.records.proofs.Heads.{long, not_short, too_short, mark_of_entry, EntryThere, ClosingThere, head_there}
+use Rattle.records.proofs.Heads.{long, not_short, mark_of_entry, EntryThere, ClosingThere, head_there}
 
 -- ---- what stands is read
 closing_head : (place count : ℕ) (t : List ℕ) → count < 2 ^ 16 → head_in place (closing_bytes count ++ t) ≡ Ok (ClosingHead count)
@@ -107,9 +107,8 @@ reads_exactly width sheet place hb c next =
           ap (record_in width place) split ∙ reads width place c (drop (length w) b) p.0 ∙ (λ j. Ok (record { content = c; next = sym p.2 j }))),
     )
 
--- ---- what the call makes of a head
+-- ---- what the call makes of an entry's head, with its symbol bytes in the sheet
 module _ (width place size m : ℕ) (sheet : List ℕ) (n : Numbers) (wide : m ≡ size * width) (head : Ok (EntryHead n size) ≡ head_at sheet place) where
-  -- with its symbol bytes in the sheet
   pub entry_answered : place + 16 + m ≤ length sheet
       → ◌≡◌ {A = Result Read Told} (Ok (record { content = entry n size (take (place + 16 + m - (place + 16)) (drop (place + 16) sheet)); next = place + 16 + m })) (record_at width sheet place)
   entry_answered room =
@@ -119,11 +118,4 @@ module _ (width place size m : ℕ) (sheet : List ℕ) (n : Numbers) (wide : m �
       let e : place + 16 + m ≡ place + (16 + size * width) = omega arith in
       (λ j. Ok (record { content = entry n size (t j); next = e j }))
       ∙ sym (not_short place (16 + size * width) b (Ok (record { content = entry n size (take (size * width) (drop 16 b)); next = place + (16 + size * width) })) (omega (arith, length-drop place sheet)))
-      ∙ ap (with_symbols width place b) head
-
-  -- without them
-  pub entry_cut_short : length sheet < place + 16 + m → ◌≡◌ {A = Result Read Told} (Err (refused_at 11 place)) (record_at width sheet place)
-  entry_cut_short short =
-      let b = drop place sheet in
-      sym (too_short place (16 + size * width) b (Ok (record { content = entry n size (take (size * width) (drop 16 b)); next = place + (16 + size * width) })) (omega (arith, length-drop place sheet)))
       ∙ ap (with_symbols width place b) head

@@ -4,7 +4,7 @@ use Rattle.std.specs.Option.{option_map}
 use Rattle.std.proofs.lemmas.Int.Digits.{number_lt}
 use Rattle.std.proofs.ByRecursion.{All-take, All-drop}
 use Rattle.std.proofs.lemmas.List.{drop-drop, length-take-le, length-drop}
-use Rattle.std.proofs.lemmas.Bool.{ltb-false, eqb-true, and_parts, cond-true, cond-false, lt-ltb, le-ltb}
+use Rattle.std.proofs.lemmas.Bool.{ltb-false, eqb-true, and_parts, cond-false, le-ltb}
 use Rattle.kinds.specs.Bytes.{Bytes, high_first}
 use Rattle.kinds.specs.Numbers.{high_first_number}
 use Rattle.limits.specs.Refusals.{Told, refused_at}
@@ -30,9 +30,6 @@ long place need b r x h = at (ltb (length b) need) refl h
 -- and what is long enough is not refused for it
 pub not_short : {A : Type 0} (place need : ℕ) (b : List ℕ) (r : Result A Told) → need ≤ length b → unless_short place need b r ≡ r
 not_short place need b r h = cond-false (ltb (length b) need) (Err (refused_at 11 place)) r (le-ltb (length b) need h)
-
-pub too_short : {A : Type 0} (place need : ℕ) (b : List ℕ) (r : Result A Told) → length b < need → unless_short place need b r ≡ Err (refused_at 11 place)
-too_short place need b r h = cond-true (ltb (length b) need) (Err (refused_at 11 place)) r (lt-ltb (length b) need h)
 
 -- the mark of two bytes is made of them
 abbrev Marked : ℕ → ℕ → Mark → Type 0

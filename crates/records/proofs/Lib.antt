@@ -1,5 +1,5 @@
-pub mod Parts
 pub mod Heads
+pub mod Fronts
 pub mod Exactly
 pub mod Symbols
 pub mod Putting

@@ -2,7 +2,6 @@
 #![tactic(auto)]
 
 pub mod mark;
-mod number;
 pub mod read;
 pub mod record;
 pub mod write;

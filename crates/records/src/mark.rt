@@ -1,5 +1,9 @@
-ghost use Rattle.std.specs.Prelude.{◌≡◌};
+ghost use Rattle.std.specs.Prelude.{◌≡◌, Some, codes, slice_index};
+ghost use Rattle.std.specs.Result.{result_ok};
 ghost use Rattle.records.specs.Marks.{child_code, children_of, mark_of};
+
+use std::error::Error;
+use std::fmt;
 
 // The first byte of an entry's mark; its child code is the second.
 pub(crate) const ENTRY: u8 = 69;
@@ -16,44 +20,64 @@ pub enum Children {
     Both,
 }
 
-impl Children {
-    // The children of a code, or none from 4 on.
-    pub fn new(code: u8) -> Option<Children>
-        ensures { result ≡ children_of code }
-    {
+// The children of a code, or none from 4 on.
+impl TryFrom<u8> for Children {
+    type Error = NoMark;
+
+    ghost try_from_gives = { λ code r. result_ok r ≡ children_of code };
+
+    fn try_from(code: u8) -> Result<Children, NoMark> {
         match code {
-            0 => Some(Children::Neither),
-            1 => Some(Children::Left),
-            2 => Some(Children::Right),
-            3 => Some(Children::Both),
-            _ => None,
+            0 => Ok(Children::Neither),
+            1 => Ok(Children::Left),
+            2 => Ok(Children::Right),
+            3 => Ok(Children::Both),
+            _ => Err(NoMark),
         }
     }
+}
 
-    // The code that stands in the mark.
-    pub fn code(self) -> u8
-        ensures { result ≡ child_code self }
-    {
-        self as u8
+// The code that stands in the mark.
+impl From<Children> for u8 {
+    ghost from_gives = { λ children code. code ≡ child_code children };
+
+    fn from(children: Children) -> u8 {
+        children as u8
     }
 }
 
 // The mark before a record.
-#[derive(Clone, Copy, Debug)]
+#[derive(Clone, Copy, Debug, PartialEq, Eq)]
 pub enum Mark {
     Entry(Children),
     Closing,
 }
 
-impl Mark {
-    // The mark of two bytes, or none where no record has it.
-    pub fn new(first: u8, second: u8) -> Option<Mark>
-        ensures { result ≡ mark_of first second }
-    {
-        match first {
-            ENTRY => Some(Mark::Entry(Children::new(second)?)),
-            CLOSING if second == 0 => Some(Mark::Closing),
-            _ => None,
+// The mark of two bytes, or none where no record has it.
+impl TryFrom<[u8; 2]> for Mark {
+    type Error = NoMark;
+
+    ghost try_from_gives = { λ bytes r. result_ok r ≡ mark_of (slice_index bytes 0) (slice_index bytes 1) };
+
+    fn try_from(bytes: [u8; 2]) -> Result<Mark, NoMark> {
+        match bytes {
+            [ENTRY, code] => Ok(Mark::Entry(Children::try_from(code)?)),
+            [CLOSING, 0] => Ok(Mark::Closing),
+            _ => Err(NoMark),
         }
     }
 }
+
+// What no record's mark has: as its child code, or as its two bytes.
+#[derive(Clone, Copy, Debug, PartialEq, Eq)]
+pub struct NoMark;
+
+impl fmt::Display for NoMark {
+    ghost output = { λ _. Some (codes "no record has this mark") };
+
+    fn fmt<W: fmt::Write>(&self, f: &mut fmt::Formatter<W>) -> fmt::Result {
+        f.write_str("no record has this mark")
+    }
+}
+
+impl Error for NoMark {}

@@ -1,20 +1,29 @@
-ghost use Rattle.std.specs.Prelude.{◌≡◌, drop};
+ghost use Rattle.std.specs.Prelude.{◌≡◌, ◌+◌, ◌≤◌, length, take, drop, Ok};
 ghost use Rattle.limits.specs.Refusals.{answered};
-ghost use Rattle.records.specs.Reading.{ReadsExactly, head_at, record_at};
+ghost use Rattle.records.specs.Reading.{ReadsExactly, head_at, record_at, unless_short};
 ghost use Rattle.records.specs.Answers.{HeadWithin, PartOf, read_of};
 
 use crate::mark::Mark;
-use crate::number::{four_at, two_at};
 use crate::record::{Head, Numbers, Record};
 use kinds::kind::{Written, width_of};
 use limits::refusal::Refusal;
 
-// What a sheet has from a place on: nothing where the place lies past its end.
-fn rest(sheet: &[u8], at: usize) -> &[u8]
-    ensures { result.now ≡ drop at sheet.now }
+// The first N bytes that a sheet has from a place on. Refused with 11 where it has fewer there; past its end it has none.
+fn front<const N: usize>(sheet: &[u8], at: usize) -> Result<[u8; N], Refusal>
+    ensures { answered (λ bytes. bytes) result ≡ unless_short at N (drop at sheet.now) (Ok (take N (drop at sheet.now))) }
 {
-    let from = at.min(sheet.len());
-    &sheet[from..]
+    let rest = &sheet[at.min(sheet.len())..];
+    rest.first_chunk()
+        .copied()
+        .ok_or(Refusal::RecordEnds { place: at })
+}
+
+// The N bytes of a record's head from an offset on.
+fn part<const N: usize>(head: &[u8], offset: usize) -> [u8; N]
+    requires { offset + N ≤ length head.now }
+    ensures { result ≡ take N (drop offset head.now) }
+{
+    *head[offset..].first_chunk().unwrap()
 }
 
 // The mark and the numbers of the record at a place.
@@ -22,36 +31,27 @@ pub fn read_head(sheet: &[u8], at: usize) -> Result<Head, Refusal>
     ensures value { answered (λ h. h) result ≡ head_at sheet.now at }
     ensures within { HeadWithin at sheet.now result }
 {
-    let bytes = rest(sheet, at);
-    if bytes.len() < 2 {
-        return Err(Refusal::RecordEnds { place: at });
-    }
-    let Some(mark) = Mark::new(bytes[0], bytes[1]) else {
-        return Err(Refusal::MarkImpossible { place: at });
-    };
+    let bytes = front::<2>(sheet, at)?;
+    let mark = Mark::try_from(bytes).map_err(|_| Refusal::MarkImpossible { place: at })?;
     match mark {
         Mark::Closing => {
-            if bytes.len() < 4 {
-                return Err(Refusal::RecordEnds { place: at });
-            }
+            let head = front::<4>(sheet, at)?;
             Ok(Head::ClosingHead {
-                count: two_at(bytes, 2),
+                count: u16::from_be_bytes(part(&head, 2)),
             })
         }
         Mark::Entry(children) => {
-            if bytes.len() < 16 {
-                return Err(Refusal::RecordEnds { place: at });
-            }
+            let head = front::<16>(sheet, at)?;
             let numbers = Numbers {
                 children,
-                weight: four_at(bytes, 2),
-                tag: four_at(bytes, 6),
-                left: two_at(bytes, 10),
-                right: two_at(bytes, 12),
+                weight: u32::from_be_bytes(part(&head, 2)),
+                tag: u32::from_be_bytes(part(&head, 6)),
+                left: u16::from_be_bytes(part(&head, 10)),
+                right: u16::from_be_bytes(part(&head, 12)),
             };
             Ok(Head::EntryHead {
                 numbers,
-                length: two_at(bytes, 14),
+                length: u16::from_be_bytes(part(&head, 14)),
             })
         }
     }
@@ -71,11 +71,11 @@ pub fn read_record<'a, S: Written>(
         Head::ClosingHead { count } => Ok((Record::Closing { count }, at + 4)),
         Head::EntryHead { numbers, length } => {
             let from = at + 16;
-            let size = length as usize * width_of::<S>();
-            if sheet.len() - from < size {
+            let next = from + usize::from(length) * width_of::<S>();
+            // Not by `get`: that a part is the caller's own sheet from a place on is known of an index alone.
+            if sheet.len() < next {
                 return Err(Refusal::RecordEnds { place: at });
             }
-            let next = from + size;
             let record = Record::Entry {
                 numbers,
                 length,

@@ -1,7 +1,7 @@
 use crate::mark::Children;
 
 // The numbers of an entry's record, but for the length of its word.
-#[derive(Clone, Copy, Debug)]
+#[derive(Clone, Copy, Debug, PartialEq, Eq)]
 pub struct Numbers {
     pub children: Children,
     pub weight: u32,
@@ -13,7 +13,7 @@ pub struct Numbers {
 }
 
 // The mark and the numbers of a record, before any symbols.
-#[derive(Clone, Copy, Debug)]
+#[derive(Clone, Copy, Debug, PartialEq, Eq)]
 pub enum Head {
     // and how many symbols the word has
     EntryHead { numbers: Numbers, length: u16 },
@@ -22,7 +22,7 @@ pub enum Head {
 }
 
 // A record of a sheet, with its symbol bytes as that very part of the sheet.
-#[derive(Clone, Copy, Debug)]
+#[derive(Clone, Copy, Debug, PartialEq, Eq)]
 pub enum Record<'a> {
     Entry {
         numbers: Numbers,

@@ -5,21 +5,14 @@ ghost use Rattle.records.specs.Records.{closing, closing_bytes, head_bytes};
 ghost use Rattle.records.specs.Writing.{Puts, entry_of};
 
 use crate::mark::{CLOSING, ENTRY};
-use crate::number::{put_four, put_two};
 use crate::record::Numbers;
 use kinds::kind::{Written, width_of};
-
-// The largest word length that two bytes hold.
-const LONGEST: usize = 65535;
 
 // The place after so many bytes from a place on, or none where a buffer of this length has no room for them.
 fn place_after(buffer: usize, at: usize, size: usize) -> Option<usize>
     ensures { result ≡ (if nat_le (at + size) buffer then Some (at + size) else None) }
 {
-    match at.checked_add(size) {
-        Some(next) if next <= buffer => Some(next),
-        _ => None,
-    }
+    at.checked_add(size).filter(|next| *next <= buffer)
 }
 
 // An entry's mark and numbers, over the front of what is lent.
@@ -28,12 +21,12 @@ fn put_head(rest: &mut [u8], numbers: Numbers, size: u16)
     ensures { rest.new ≡ over 0 (head_bytes numbers size) rest.old }
 {
     rest[0] = ENTRY;
-    rest[1] = numbers.children.code();
-    put_four(&mut rest[2..], numbers.weight);
-    put_four(&mut rest[6..], numbers.tag);
-    put_two(&mut rest[10..], numbers.left);
-    put_two(&mut rest[12..], numbers.right);
-    put_two(&mut rest[14..], size);
+    rest[1] = u8::from(numbers.children);
+    rest[2..6].copy_from_slice(&numbers.weight.to_be_bytes());
+    rest[6..10].copy_from_slice(&numbers.tag.to_be_bytes());
+    rest[10..12].copy_from_slice(&numbers.left.to_be_bytes());
+    rest[12..14].copy_from_slice(&numbers.right.to_be_bytes());
+    rest[14..16].copy_from_slice(&size.to_be_bytes());
 }
 
 // The closing record, over the front of what is lent.
@@ -43,7 +36,7 @@ fn put_closing(rest: &mut [u8], count: u16)
 {
     rest[0] = CLOSING;
     rest[1] = 0;
-    put_two(&mut rest[2..], count);
+    rest[2..4].copy_from_slice(&count.to_be_bytes());
 }
 
 // The bytes of a word's symbols, one after another, over the front of what is lent.
@@ -52,10 +45,9 @@ fn put_word<S: Written>(rest: &mut [u8], word: &[S])
     ensures { rest.new ≡ over 0 (flat_map S.Written.codec.bytes (map S.Ordered.symbol word.now)) rest.old }
 {
     let width = width_of::<S>();
-    let mut at = 0;
-    for symbol in word {
-        symbol.write(&mut rest[at..]);
-        at += width;
+    for (i, symbol) in word.iter().enumerate() {
+        // Not by `chunks_exact_mut`: of what was written through its parts a proof knows the length alone.
+        symbol.write(&mut rest[i * width..]);
     }
 }
 
@@ -78,11 +70,9 @@ pub fn write_entry<S: Written>(
 ) -> Option<usize>
     ensures { Puts S.Written.codec.width (entry_of S.Written.codec numbers (map S.Ordered.symbol word.now)) at sheet.old sheet.new result }
 {
-    if word.len() > LONGEST {
-        return None;
-    }
+    let size = u16::try_from(word.len()).ok()?;
     let next = place_after(sheet.len(), at, 16 + word.len() * width_of::<S>())?;
-    put_entry(&mut sheet[at..], numbers, word.len() as u16, word);
+    put_entry(&mut sheet[at..], numbers, size, word);
     Some(next)
 }
 

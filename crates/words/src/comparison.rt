@@ -7,7 +7,7 @@ use kinds::kind::Ordered;
 use std::cmp::Ordering;
 
 // What a comparison of two words answers.
-#[derive(Clone, Copy, Debug)]
+#[derive(Clone, Copy, Debug, PartialEq, Eq)]
 pub struct Comparison {
     // where the first word stands to the second: Less is before, Greater after
     pub answer: Ordering,
@@ -31,14 +31,14 @@ pub fn compare_from<S: Ordered, C: Comparer<S>>(
 {
     let end = a.len().min(b.len());
     let start = from.min(end);
-    for at in start..end {
-        match comparer.ask(&a[at], &b[at]) {
+    for (met, (x, y)) in a[start..].iter().zip(&b[start..]).enumerate() {
+        match comparer.ask(x, y) {
             Ordering::Equal => {}
             answer => {
                 return Comparison {
                     answer,
-                    share: at,
-                    pairs: at - start + 1,
+                    share: start + met,
+                    pairs: met + 1,
                 };
             }
         }

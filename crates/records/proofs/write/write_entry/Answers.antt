@@ -1,7 +1,8 @@
-use Rattle.std.proofs.Common.{◌≡◌, ℕ, ◌+◌, ◌-◌, ◌*◌, ◌^◌, ◌<◌, ltb, leb, List, ◌++◌, map, length, take, drop, sym, ap, ◌∙◌, arith, rules}
+use Rattle.std.proofs.Common.{◌≡◌, ℕ, ◌+◌, ◌-◌, ◌*◌, ◌^◌, ◌<◌, leb, List, ◌++◌, map, length, Some, Ok, Err, Result, take, drop, sym, ap, ◌∙◌, arith, rules}
 use Rattle.std.specs.List.{flat_map}
+use Rattle.std.specs.Result.{OkIff, result_ok}
 use Rattle.std.proofs.lemmas.List.{length-map}
-use Rattle.std.proofs.lemmas.Bool.{and_left, and_right, lt-ltb, le-ltb}
+use Rattle.std.proofs.lemmas.Bool.{and_right, lt-ltb}
 use Rattle.kinds.specs.Bytes.{over}
 use Rattle.kinds.specs.Codecs.{Codec, Faithful}
 use Rattle.records.specs.declared.record.Numbers.{Numbers}
@@ -18,12 +19,10 @@ record_length c law n word m w e f =
     let k : length word * c.width ≡ m * w = (λ i. e i * sym f i) in
     omega arith
 
-pub returns-then-word-gt-LONGEST : goal.returns-then-word-gt-LONGEST
-returns-then-word-gt-LONGEST g c =
-    let word = map g.S.Ordered.symbol c.args.word.now in
-    let l = length-map c.args.word.now g.S.Ordered.symbol in
-    not_put g.S.Written.codec.width (entry_of g.S.Written.codec c.args.numbers word) c.args.at c.args.sheet.now
-    (and_left (ltb (length word) 65536) _ (le-ltb (length word) 65536 (omega arith)))
+-- the two length bytes hold the word's length
+sized : {E : Type 0} (r : Result ℕ E) (P : Type 0) (v x : ℕ) → OkIff r P v → Some x ≡ result_ok r → P × (x ≡ v)
+sized (Ok y) P v x h e = let f : x ≡ y = cc in (h.0, f ∙ h.1)
+sized (Err d) P v x h e = absurd (let z : ◌≡◌ {A = ℕ} 0 1 = cc in let y : ⊥ = omega arith in y)
 
 pub returns-in_err-next : goal.returns-in_err-next
 returns-in_err-next g c =
@@ -33,7 +32,7 @@ returns-in_err-next g c =
     let content = entry_of codec c.args.numbers word in
     let len = record_length codec g.met.S.Written.faithful c.args.numbers word (length c.args.word.now) c.width_of.result (length-map c.args.word.now symbol) c.width_of.ensures.value in
     let h = no_room (c.args.at + (16 + length c.args.word.now * c.width_of.result)) (length c.args.sheet.now) c.in_err-next.ensures in
-    rw c.from_residual.ensures
+    rw c.from_residual-in_err-next.ensures
     (not_put codec.width content c.args.at c.args.sheet.now
     (and_right (fits_size content) (leb (c.args.at + length (record_bytes content)) (length c.args.sheet.now)) (ap (λ (n : ℕ). leb (c.args.at + n) (length c.args.sheet.now)) len ∙ h)))
 
@@ -45,7 +44,8 @@ returns g c =
     let word = map symbol c.args.word.now in
     let content = entry_of codec c.args.numbers word in
     let l = length-map c.args.word.now symbol in
-    let small : length word < 2 ^ 16 = omega arith in
+    let size = sized c.try_from.result _ _ c.in_ok-size.size c.try_from.ensures c.in_ok-size.ensures.value in
+    let small : length word < 2 ^ 16 = (let k = size.0 in omega arith) in
     let len = record_length codec law c.args.numbers word (length c.args.word.now) c.width_of.result l c.width_of.ensures.value in
     let h = room_there (c.args.at + (16 + length c.args.word.now * c.width_of.result)) (length c.args.sheet.now) c.in_ok-next.next c.in_ok-next.ensures in
     let proper : ProperEntry codec.width c.args.numbers (length word) (flat_map codec.bytes word) =
@@ -60,4 +60,4 @@ returns g c =
     } in
     put codec.width content c.args.at c.in_ok-next.next c.args.sheet.now c.put_entry.new.rest proper
     (lt-ltb (length word) 65536 (omega arith)) (h.0 ∙ ap (λ (n : ℕ). c.args.at + n) (sym len)) (omega (arith, h.0, h.1))
-    (c.put_entry.ensures ∙ ap (λ (n : ℕ). over 0 (head_bytes c.args.numbers n ++ flat_map codec.bytes word) (take (length c.args.sheet.now - c.args.at) (drop c.args.at c.args.sheet.now))) (sym l))
+    (c.put_entry.ensures ∙ ap (λ (n : ℕ). over 0 (head_bytes c.args.numbers n ++ flat_map codec.bytes word) (take (length c.args.sheet.now - c.args.at) (drop c.args.at c.args.sheet.now))) (size.1 ∙ sym l))
