@@ -1,7 +1,7 @@
 -- The numbers below a count, in so many bytes, are a faithful codec, where the bytes suffice for the count.
-use Rattle.std.specs.Prelude.{◌≡◌, ℕ, ◌^◌, ◌≤◌, true, ltb, length, Some, None, Option, ◌==◌, ◌≢◌, nat_lt, refl}
+use Rattle.std.specs.Prelude.{◌≡◌, ℕ, ◌^◌, ◌≤◌, true, ltb, List, length, Some, None, Option, ◌==◌, ◌≢◌, nat_lt, refl}
 use Rattle.std.proofs.Common.{sym, ap, ◌∙◌, arith}
-use Rattle.std.proofs.lemmas.Bool.{ltb-true, eqb-true, cond_both}
+use Rattle.std.proofs.lemmas.Bool.{ltb-true, eqb-true, eq-eqb, cond-true, cond_both}
 use Rattle.std.proofs.lemmas.Option.{cond_some, none-some}
 use Rattle.kinds.specs.Bytes.{high_first, number_of}
 use Rattle.kinds.specs.Codecs.{Codec, Faithful, RefusesExactly, numbers_below, below}
@@ -27,6 +27,11 @@ numbers_faithful count width one four enough = record {
       ))
       (λ _ h. absurd (none-some s h));
 }
+
+-- bytes of the kind's width are judged by the number they write
+pub reads_as : (count width n : ℕ) (b : List ℕ) → length b ≡ width → number_of b ≡ n → below count n ≡ (numbers_below count width).symbol_of b
+reads_as count width n b l e =
+    ap (below count) (sym e) ∙ sym (cond-true (length b == width) (below count (number_of b)) None (eq-eqb (length b) width l))
 
 -- what reading accepts, some symbol writes; so what no symbol writes is refused, and what one writes is not
 pub refuses_exactly : (c : Codec) → Faithful c → RefusesExactly c

@@ -1,12 +1,12 @@
 -- A number in bytes, high byte first, and back: for every width.
 use Rattle.std.specs.Prelude.{◌≡◌, ℕ, zero, suc, ◌+◌, ◌*◌, ◌/◌, ◌%◌, ◌^◌, ◌<◌, ◌≤◌, List, [], ◌∷◌, length, take, drop, slice_index, refl}
-use Rattle.std.proofs.Common.{ap, mod-eq_of_lt, pow-suc, arith}
+use Rattle.std.proofs.Common.{sym, ap, ◌∙◌, mod-eq_of_lt, pow-suc, arith}
 use Rattle.std.proofs.Math.Arith.{digits_div, mod-mul}
 use Rattle.std.proofs.Math.Nat.{one-le-pow}
 use Rattle.std.specs.Int.Digits.{number_from_digits_after}
 use Rattle.std.proofs.lemmas.Grind.{common_steps}
 use Rattle.std.proofs.lemmas.Int.Digits.{number_lt}
-use Rattle.std.proofs.lemmas.List.{drop_more}
+use Rattle.std.proofs.lemmas.List.{drop_more, take_all}
 use Rattle.kinds.specs.Bytes.{Bytes, high_first, number_of}
 
 pub length_high_first : (k n : ℕ) → length (high_first k n) ≡ k
@@ -61,3 +61,6 @@ part_listed b i (suc n) h =
     let first = drop_more b i 0 (omega arith) in
     let rest = part_listed b (i + 1) n (omega arith) in
     grind (arith, common_steps)
+
+pub listed : (b : List ℕ) (n : ℕ) → length b ≡ n → b ≡ places b 0 n
+listed b n h = sym (take_all n b (omega arith)) ∙ part_listed b 0 n (omega arith)
