@@ -1,5 +1,6 @@
-ghost use Rattle.std.specs.Prelude.{◌≡◌, ℕ, ◌+◌, ◌^◌, ◌<◌, map, Some, None};
+ghost use Rattle.std.specs.Prelude.{◌≡◌, ◌^◌, ◌<◌, map, Some, None};
 ghost use Rattle.words.specs.Comparisons.{compared_from};
+ghost use Rattle.words.specs.Counting.{RaisedBy};
 
 use kinds::kind::Ordered;
 use std::cmp::Ordering;
@@ -43,7 +44,7 @@ impl<S: Ordered> Comparer<S> for Remembering {
 
     fn ask(&mut self, a: &S, b: &S) -> Ordering
         ensures answers { result ≡ S.Ordered.order (S.Ordered.symbol a.now) (S.Ordered.symbol b.now) }
-        ensures counts { self.old.count + 1 < 2 ^ 32 → self.new.count ≡ self.old.count + 1 }
+        ensures counts { RaisedBy 1 self.old.count self.new.count }
         ensures keeps { self.new.last ≡ Some result }
     {
         let answer = a.compare(b);
