@@ -36,6 +36,7 @@ pub trait Written: Ordered {
     ghost WIDTH: { ℕ };
 
     // Writes the symbol's bytes over the front of what is lent and says so; where they have no room it changes nothing.
+    // Yes or no is all that there is to say, so no `Result` carries it.
     fn write(&self, out: &mut [u8]) -> bool
         ensures room { result ≡ nat_le codec.width (length out.old) }
         ensures after { out.new ≡ (if result then over 0 (codec.bytes (Self.Ordered.symbol self.now)) out.old else out.old) };

@@ -24,7 +24,7 @@ pub struct Slot {
     pub tag: u32,
 }
 
-// No place: every capacity is less.
+// No place: every capacity is less. A number and no `Option`: a slot is fixed memory that the caller brings, and whatever stands in it can be read.
 pub const NONE: u16 = u16::MAX;
 
 impl Slot {

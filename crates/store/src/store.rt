@@ -69,7 +69,7 @@ impl<'a, S: Ordered> Store<'a, S> {
         ensures walked { (x : Walk) → result ≡ Ok x → WalkOf S.Ordered.order (map S.Ordered.symbol word.now) (entry_of S.Ordered.symbol self.now.memory) (places self.now.memory) x }
         ensures asked { RaisedBy (pairs_walked result) (C.Comparer.asked comparer.old) (C.Comparer.asked comparer.new) }
     {
-        self.memory.limits.check_word(word.len())?;
+        self.limits().check_word(word.len())?;
         Ok(self.find(word, comparer))
     }
 
