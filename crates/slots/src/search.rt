@@ -1,5 +1,4 @@
 ghost use Rattle.std.specs.Prelude.{◌≡◌, map};
-ghost use Rattle.rules.specs.Walks.{compared};
 ghost use Rattle.slots.specs.Searches.{Begun, SameSearch, passed};
 ghost use Rattle.slots.specs.Slots.{compared_with};
 ghost use Rattle.words.specs.Counting.{RaisedBy};
@@ -25,39 +24,6 @@ pub struct Search<'w, 'c, S, C> {
     pub comparer: &'c mut C,
 }
 
-// Compares a sought word with a held one by what they share with a third, which stands before both or else after both.
-// The sought one shares `kept` symbols with it, the held one `stored`. If these are equal, the two words are compared from there on.
-fn compare_by_lengths<S: Ordered, C: Comparer<S>>(
-    word: &[S],
-    held: &[S],
-    is_before: bool,
-    kept: usize,
-    stored: usize,
-    comparer: &mut C,
-) -> Comparison
-    ensures value { result ≡ compared S.Ordered.order (map S.Ordered.symbol word.now) (map S.Ordered.symbol held.now) is_before kept stored }
-    ensures asked { RaisedBy result.pairs (C.Comparer.asked comparer.old) (C.Comparer.asked comparer.new) }
-{
-    let nearer = if is_before {
-        Ordering::Less
-    } else {
-        Ordering::Greater
-    };
-    match stored.cmp(&kept) {
-        Ordering::Less => Comparison {
-            answer: nearer,
-            share: stored,
-            pairs: 0,
-        },
-        Ordering::Equal => compare_from(word, held, kept, comparer),
-        Ordering::Greater => Comparison {
-            answer: nearer.reverse(),
-            share: kept,
-            pairs: 0,
-        },
-    }
-}
-
 impl<'w, 'c, S: Ordered, C: Comparer<S>> Search<'w, 'c, S, C> {
     // A search that has met no entry.
     pub fn new(word: &'w [S], comparer: &'c mut C) -> Self
@@ -75,6 +41,7 @@ impl<'w, 'c, S: Ordered, C: Comparer<S>> Search<'w, 'c, S, C> {
 
     // Compares the word with an entry that is met: its slot and its word.
     // The side before counts if the word shares more with the nearest entry met there, else the side after.
+    // That nearest entry stands before both words or after both, so what each shares with it tells them apart. Where they share as much, they are compared from there on.
     pub fn meet(&mut self, slot: &Slot, held: &[S]) -> Comparison
         ensures value { result ≡ compared_with S.Ordered.order (map S.Ordered.symbol self.old.word.now) (map S.Ordered.symbol held.now) slot.now self.old.shares }
         ensures asked { RaisedBy result.pairs (C.Comparer.asked self.old.comparer.now) (C.Comparer.asked self.new.comparer.now) }
@@ -89,14 +56,25 @@ impl<'w, 'c, S: Ordered, C: Comparer<S>> Search<'w, 'c, S, C> {
         } else {
             slot.right_length
         };
-        compare_by_lengths(
-            self.word,
-            held,
-            is_before,
-            kept,
-            stored as usize,
-            self.comparer,
-        )
+        let nearer = if is_before {
+            Ordering::Less
+        } else {
+            Ordering::Greater
+        };
+        let share = usize::from(stored);
+        match share.cmp(&kept) {
+            Ordering::Less => Comparison {
+                answer: nearer,
+                share,
+                pairs: 0,
+            },
+            Ordering::Equal => compare_from(self.word, held, kept, self.comparer),
+            Ordering::Greater => Comparison {
+                answer: nearer.reverse(),
+                share: kept,
+                pairs: 0,
+            },
+        }
     }
 
     // Goes on to a side of an entry, and keeps what the word shares with that entry.
