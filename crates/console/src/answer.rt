@@ -1,8 +1,8 @@
 ghost use Rattle.std.specs.Prelude.{◌≡◌, ◌++◌, IfOk, string_bytes, codes, decimal};
 ghost use Rattle.console.specs.Texts.{ClosingText, order_text};
 
-use crate::text::hex;
 use records::record::Record;
+use script::text::hex;
 use std::alloc::{AllocError, Global};
 use std::cmp::Ordering;
 use words::comparison::Comparison;

@@ -2,15 +2,12 @@
 #![tactic(auto)]
 
 mod answer;
-mod command;
 mod session;
-mod symbol;
-mod text;
 
+use script::text::line_end;
 use session::{Session, run_line};
 use std::io;
 use std::io::Read;
-use text::line_end;
 
 fn main(rt: HostRuntime) -> io::Result<()> {
     let mut script = Vec::new(rt.alloc());

@@ -2,13 +2,13 @@ ghost use Rattle.std.specs.Prelude.{◌≡◌, None, Ok, slice_index_or};
 ghost use Rattle.limits.specs.Capacity.{limits_for};
 
 use crate::answer::{brought, compared, opened, recorded};
-use crate::command::{Command, Kind, split_words};
-use crate::symbol::{Symbol, word};
-use crate::text::bytes;
 use kinds::letter::Letter;
 use kinds::pen::PenElement;
 use limits::bounds::Limits;
 use records::read::read_record;
+use script::command::{Command, Kind, split_words};
+use script::symbol::{Symbol, word};
+use script::text::bytes;
 use std::alloc::{AllocError, Global};
 use words::comparison::compare_words;
 
@@ -102,6 +102,8 @@ fn run(
             Kind::Letters => record::<Letter>(heap, hex, place),
             Kind::Pen => record::<PenElement>(heap, hex, place),
         },
+        // Not run yet.
+        Command::Add { .. } | Command::Find { .. } | Command::List | Command::Tally => Ok(None),
     }
 }
 
