@@ -2,5 +2,6 @@
 #![tactic(auto)]
 
 pub mod command;
+pub mod error;
 pub mod symbol;
 pub mod text;

@@ -1,0 +1,10 @@
+-- What a reading of a text answers.
+use Rattle.std.specs.Prelude.{◌≡◌, ℕ, Some, None, Ok, Err, Option, Result}
+use Rattle.script.specs.declared.error.ReadError.{ReadError}
+use Rattle.script.specs.declared.error.ReadError.TheVariants.{Unreadable, OutOfMemory}
+
+-- A reading gives what the text says, as f sees it, and is unreadable where the text says nothing. Memory alone may fail it otherwise.
+abbrev pub Reads : {A B : Type 0} → (A → B) → Option B → Result A ReadError → Type 0
+Reads f said (Ok x) = said ≡ Some (f x)
+Reads f said (Err Unreadable) = said ≡ None
+Reads f said (Err OutOfMemory) = Unit {0}
