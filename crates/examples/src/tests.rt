@@ -17,7 +17,7 @@ use words::comparison::compare_words;
 fn letters(heap: Global, text: &str) -> Result<Vec<Letter>, AllocError> {
     let mut word = Vec::new(heap);
     for c in text.chars() {
-        if let Some(letter) = Letter::new(u32::from(c)) {
+        if let Ok(letter) = Letter::try_from(u32::from(c)) {
             word.push(letter)?;
         }
     }
@@ -25,19 +25,19 @@ fn letters(heap: Global, text: &str) -> Result<Vec<Letter>, AllocError> {
 }
 
 fn code(letter: Option<Letter>) -> Option<u32> {
-    Some(letter?.code())
+    letter.map(u32::from)
 }
 
 fn number(element: Option<PenElement>) -> Option<u8> {
-    Some(element?.number())
+    element.map(u8::from)
 }
 
 #[test]
 fn letters_end_at_1114111(rt: HostRuntime) {
-    assert_eq!(rt; code(Letter::new(0)), Some(0));
-    assert_eq!(rt; code(Letter::new(1114111)), Some(1114111));
-    assert_eq!(rt; code(Letter::new(1114112)), None);
-    assert_eq!(rt; code(Letter::new(4294967295)), None);
+    assert_eq!(rt; code(Letter::try_from(0).ok()), Some(0));
+    assert_eq!(rt; code(Letter::try_from(1114111).ok()), Some(1114111));
+    assert_eq!(rt; code(Letter::try_from(1114112).ok()), None);
+    assert_eq!(rt; code(Letter::try_from(4294967295).ok()), None);
     assert_eq!(rt;
         code(<Letter as Written>::read(&[16, 255, 255])),
         Some(1114111)
@@ -50,7 +50,7 @@ fn letters_end_at_1114111(rt: HostRuntime) {
 
 #[test]
 fn letters_are_written_high_byte_first(rt: HostRuntime) -> Result<(), Fail> {
-    let last = Letter::new(1114111).ok_or("none")?;
+    let last = Letter::try_from(1114111)?;
     let mut room = [7u8; 4];
     assert!(rt; last.write(&mut room));
     assert_eq!(rt; room, [16, 255, 255, 7]);
@@ -62,10 +62,10 @@ fn letters_are_written_high_byte_first(rt: HostRuntime) -> Result<(), Fail> {
 
 #[test]
 fn pen_elements_end_at_15_and_3(rt: HostRuntime) {
-    assert_eq!(rt; number(PenElement::moved(0, 0)), Some(1));
-    assert_eq!(rt; number(PenElement::moved(15, 3)), Some(64));
-    assert_eq!(rt; number(PenElement::moved(16, 0)), None);
-    assert_eq!(rt; number(PenElement::moved(0, 4)), None);
+    assert_eq!(rt; number(PenElement::moved(0, 0).ok()), Some(1));
+    assert_eq!(rt; number(PenElement::moved(15, 3).ok()), Some(64));
+    assert_eq!(rt; number(PenElement::moved(16, 0).ok()), None);
+    assert_eq!(rt; number(PenElement::moved(0, 4).ok()), None);
     assert_eq!(rt; number(<PenElement as Written>::read(&[0])), Some(0));
     assert_eq!(rt; number(<PenElement as Written>::read(&[64])), Some(64));
     assert_eq!(rt; number(<PenElement as Written>::read(&[65])), None);
@@ -75,12 +75,22 @@ fn pen_elements_end_at_15_and_3(rt: HostRuntime) {
 
 #[test]
 fn a_lift_comes_before_every_move(rt: HostRuntime) -> Result<(), Fail> {
-    let low = PenElement::moved(0, 3).ok_or("none")?;
-    let high = PenElement::moved(1, 0).ok_or("none")?;
+    let low = PenElement::moved(0, 3)?;
+    let high = PenElement::moved(1, 0)?;
     assert_eq!(rt; PenElement::Lift.compare(&low), Ordering::Less);
     assert_eq!(rt; low.compare(&high), Ordering::Less);
     assert_eq!(rt; high.compare(&low), Ordering::Greater);
     assert_eq!(rt; high.compare(&high), Ordering::Equal);
+    Ok(())
+}
+
+#[test]
+fn symbols_are_printed_by_their_numbers(rt: HostRuntime) -> Result<(), Fail> {
+    let letter = Letter::try_from(65)?;
+    let moved = PenElement::moved(3, 1)?;
+    let lift = PenElement::Lift;
+    let text = format!(in rt.alloc(); "{letter} {moved} {lift}")?;
+    assert_eq!(rt; text.as_str(), "65 3/1 0");
     Ok(())
 }
 

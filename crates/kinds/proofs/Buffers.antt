@@ -1,8 +1,9 @@
 -- Lent buffers: their bytes, and what writing over a part of one leaves in the whole.
-use Rattle.std.proofs.Common.{◌≡◌, ℕ, ◌+◌, ◌-◌, ◌<◌, ◌≤◌, List, [], ◌∷◌, ◌++◌, length, get_or, take, drop, set, sym, refl, ap, ◌∙◌, append_assoc, append-nil, zero-add, arith, w8, Fits}
+use Rattle.std.proofs.Common.{◌≡◌, ℕ, ◌+◌, ◌-◌, ◌<◌, ◌≤◌, List, [], ◌∷◌, ◌++◌, length, get_or, take, drop, set, sym, refl, append_assoc, arith, w8, Fits}
 use borrow.Rule.Slice.PartMut.{put_mid}
 use Rattle.std.proofs.ByRecursion.{All-from_get_or}
-use Rattle.std.proofs.lemmas.List.{take_rest, drop-drop, drop_all, take_at, drop_at, length-take-le, length-append, length-drop}
+use Rattle.std.proofs.lemmas.Grind.{common_steps}
+use Rattle.std.proofs.lemmas.List.{drop-drop, take_at, drop_at, length-append}
 use Rattle.kinds.specs.Bytes.{Bytes, over}
 
 -- a slice of bytes holds bytes
@@ -11,38 +12,33 @@ bytes_typed s typed = All-from_get_or (λ x. x < 256) s 0 (λ i h. let f = typed
 
 -- a buffer whose rest, from a place on, was lent to a writer that wrote w over its front
 pub over_lent : (s w out : List ℕ) (place : ℕ) → place ≤ length s → out ≡ over 0 w (take (length s - place) (drop place s)) → put_mid place (length s - place) s out ≡ over place w s
-over_lent s w out place h e =
-    let none : drop (length s - place) (drop place s) ≡ [] = drop_all (length s - place) (drop place s) (omega (arith, length-drop place s)) in
-    let o : out ≡ w ++ drop (place + length w) s = e ∙ simp (zero-add, take_rest, drop-drop) in
-    ap (λ t. take place s ++ (out ++ t)) none ∙ ap (λ t. take place s ++ t) (append-nil out ∙ o)
+over_lent s w out place h e = grind (arith, common_steps)
 
 -- one write right after another is one write
 pub over_over : (s w v : List ℕ) (place : ℕ) → place + length w ≤ length s → over (place + length w) v (over place w s) ≡ over place (w ++ v) s
 over_over s w v place h =
-    let lt : length (take place s) ≡ place = length-take-le place s (omega arith) in
-    let l : length (take place s ++ w) ≡ place + length w = length-append (take place s) w ∙ ap (λ n. n + length w) lt in
     let front : over place w s ≡ (take place s ++ w) ++ drop (place + length w) s = sym (append_assoc (take place s) w (drop (place + length w) s)) in
-    let t : take (place + length w) (over place w s) ≡ take place s ++ w = ap (take (place + length w)) front ∙ take_at (take place s ++ w) (drop (place + length w) s) (place + length w) l in
-    let d : drop (place + length w) (over place w s) ≡ drop (place + length w) s = ap (drop (place + length w)) front ∙ drop_at (take place s ++ w) (drop (place + length w) s) (place + length w) l in
-    let d2 : drop (place + length w + length v) (over place w s) ≡ drop (place + length (w ++ v)) s =
-    sym (drop-drop (length v) (place + length w) (over place w s)) ∙ ap (drop (length v)) d ∙ drop-drop (length v) (place + length w) s ∙ ap (λ n. drop n s) (omega (arith, length-append w v)) in
-    ap (λ z. z ++ (v ++ drop (place + length w + length v) (over place w s))) t ∙ ap (λ z. (take place s ++ w) ++ (v ++ z)) d2 ∙ simp append_assoc
+    let l : length (take place s ++ w) ≡ place + length w = grind (arith, common_steps) in
+    let t = take_at (take place s ++ w) (drop (place + length w) s) (place + length w) l in
+    let d = drop_at (take place s ++ w) (drop (place + length w) s) (place + length w) l in
+    let beyond = drop-drop (length v) (place + length w) (over place w s) in
+    let rest = drop-drop (length v) (place + length w) s in
+    grind (arith, append_assoc, length-append)
 
 pub length_over : (s w : List ℕ) (place : ℕ) → place + length w ≤ length s → length (over place w s) ≡ length s
-length_over s w place h =
-    let lt : length (take place s) ≡ place = length-take-le place s (omega arith) in
-    let ld = length-drop (place + length w) s in
-    simp length-append (omega arith)
+length_over s w place h = grind (arith, common_steps)
 
 -- what was written stands there
 pub over_stands : (s w : List ℕ) (place : ℕ) → place ≤ length s → drop place (over place w s) ≡ w ++ drop (place + length w) s
-over_stands s w place h = drop_at (take place s) (w ++ drop (place + length w) s) place (length-take-le place s h)
+over_stands s w place h = grind (arith, common_steps)
 
 -- a buffer that holds w from a place on, lent from the end of w on to a writer of v
 pub over_next : (s w v now out : List ℕ) (place p : ℕ) → now ≡ over place w s → p ≡ place + length w → p ≤ length s → out ≡ over 0 v (take (length now - p) (drop p now)) → put_mid p (length now - p) now out ≡ over place (w ++ v) s
 over_next s w v now out place p is end room wrote =
-    let len : length now ≡ length s = ap length is ∙ length_over s w place (omega arith) in
-    over_lent now v out p (omega arith) wrote ∙ (λ i. over (end i) v (is i)) ∙ over_over s w v place (omega arith)
+    let len = length_over s w place in
+    let lent = over_lent now v out p in
+    let both = over_over s w v place in
+    grind arith
 
 -- two bytes set at the front
 pub over_two : (s : List ℕ) (x y : ℕ) → 2 ≤ length s → set (set s 0 x) 1 y ≡ over 0 (x ∷ (y ∷ [])) s

@@ -1,5 +1,7 @@
 -- The bytes of a kind's symbols. A symbol is known by its number.
-use Rattle.std.specs.Prelude.{◌≡◌, ℕ, ◌≤◌, Bool, true, cond, List, length, Some, None, Option, ◌==◌, ◌≢◌, nat_lt}
+use Rattle.std.specs.Prelude.{◌≡◌, ℕ, ◌≤◌, Bool, true, cond, List, length, Some, None, Option, Result, ◌==◌, ◌≢◌, nat_lt}
+use Rattle.std.specs.Option.{option_map}
+use Rattle.std.specs.Result.{result_ok}
 use Rattle.kinds.specs.Bytes.{Bytes, high_first, number_of}
 
 pub record Codec : Type 0 where
@@ -26,6 +28,10 @@ pub record Faithful (c : Codec) : Type 0 where
 -- a number, where it is below a count
 abbrev pub below : ℕ → ℕ → Option ℕ
 below count n = cond (nat_lt n count) (Some n) None
+
+-- the answer is the value of this number, where it is below a count, and else an error
+abbrev pub GivesBelow : {A E : Type 0} → ℕ → (A → ℕ) → ℕ → Result A E → Type 0
+GivesBelow count number n answer = option_map number (result_ok answer) ≡ below count n
 
 -- the symbols are the numbers below a count, each written in so many bytes, high byte first
 abbrev pub numbers_below : ℕ → ℕ → Codec

@@ -1,5 +1,5 @@
 -- Pen elements: a lift, or a move with a direction 0 to 15 and a length class 0 to 3, in 1 byte.
-use Rattle.std.specs.Prelude.{ℕ, ◌+◌, ◌*◌, cond, ◌&&◌, Some, None, Option, nat_lt}
+use Rattle.std.specs.Prelude.{ℕ, ◌+◌, ◌*◌, cond, ◌&&◌, List, ◌++◌, Some, None, Option, codes, decimal, nat_lt}
 use Rattle.kinds.specs.declared.pen.Direction.{Direction}
 use Rattle.kinds.specs.declared.pen.Direction.TheVariants.{D0, D1, D2, D3, D4, D5, D6, D7, D8, D9, D10, D11, D12, D13, D14, D15}
 use Rattle.kinds.specs.declared.pen.LengthClass.{LengthClass}
@@ -40,6 +40,11 @@ element_number (Move d c) = 1 + 4 * direction_number d + class_number c
 -- a direction and a class, where both are in range: the number of that move
 abbrev pub as_move : ℕ → ℕ → Option ℕ
 as_move d c = cond (nat_lt d 16 && nat_lt c 4) (Some (1 + 4 * d + c)) None
+
+-- what is printed of an element: `0` for a lift, `D/C` for a move of direction D and length class C
+abbrev pub element_text : PenElement → List ℕ
+element_text Lift = codes "0"
+element_text (Move d c) = decimal (direction_number d) ++ (codes "/" ++ decimal (class_number c))
 
 -- 65 elements, each written as the byte of its number: a lift is 0, a move 1 + 4 × direction + class
 abbrev pub pen_elements : Codec

@@ -1,11 +1,13 @@
-ghost use Rattle.std.specs.Prelude.{◌≡◌, ℕ, ◌≤◌, true, length, if◌then◌else◌, nat_le};
+ghost use Rattle.std.specs.Prelude.{◌≡◌, ℕ, ◌≤◌, true, length, if◌then◌else◌, nat_le, Some, codes};
 ghost use Rattle.std.specs.declared.cmp.Ordering.{Ordering};
 ghost use Rattle.std.specs.Option.{option_map};
 ghost use Rattle.kinds.specs.Bytes.{over};
 ghost use Rattle.kinds.specs.Codecs.{Codec, Faithful, RefusesExactly};
-ghost use Rattle.kinds.specs.Orders.{Lawful, number_order};
+ghost use Rattle.kinds.specs.Orders.{Lawful};
 
 use std::cmp::Ordering;
+use std::error::Error;
+use std::fmt;
 
 // An ordered kind of symbol. Each value of the type is one of the kind's symbols.
 pub trait Ordered: Copy {
@@ -29,8 +31,9 @@ pub trait Written: Ordered {
     ghost codec: { Codec };
 
     // How many bytes a symbol takes.
-    fn width() -> usize
-        ensures { result ≡ codec.width };
+    const WIDTH: usize;
+
+    ghost WIDTH: { ℕ };
 
     // Writes the symbol's bytes over the front of what is lent and says so; where they have no room it changes nothing.
     fn write(&self, out: &mut [u8]) -> bool
@@ -41,6 +44,9 @@ pub trait Written: Ordered {
     fn read(from: &[u8]) -> Option<Self>
         ensures { option_map Self.Ordered.symbol result ≡ codec.symbol_of from.now };
 
+    // the width is the codec's
+    ghost wide: { WIDTH ≡ codec.width };
+
     // what the bytes owe
     ghost faithful: { Faithful codec };
 
@@ -48,25 +54,27 @@ pub trait Written: Ordered {
     ghost each: { (x : Self) → codec.has (Self.Ordered.symbol x) ≡ true };
 }
 
-// The order of numbers, for kinds that are ordered by number.
-pub(crate) fn by_number(a: u32, b: u32) -> Ordering
-    ensures { result ≡ number_order a b }
-{
-    if a < b {
-        Ordering::Less
-    } else if b < a {
-        Ordering::Greater
-    } else {
-        Ordering::Equal
-    }
-}
-
 // The width of a written kind, which is 1 to 4; and what its bytes promise.
+#[tactic(auto, using(crate::specs::Codes::refuses_exactly))]
 pub fn width_of<S: Written>() -> usize
     ensures value { result ≡ S.Written.codec.width }
     ensures bound { (1 ≤ result) × (result ≤ 4) }
     ensures inverse { Faithful S.Written.codec }
     ensures refuses { RefusesExactly S.Written.codec }
 {
-    S::width()
+    S::WIDTH
 }
+
+// A number that makes no symbol, nor a part of one: it is beyond the last.
+#[derive(Clone, Copy, Debug, PartialEq, Eq, Hash)]
+pub struct NoSuchSymbol;
+
+impl fmt::Display for NoSuchSymbol {
+    ghost output = { λ _. Some (codes "no such symbol") };
+
+    fn fmt<W: fmt::Write>(&self, f: &mut fmt::Formatter<W>) -> fmt::Result {
+        f.write_str("no such symbol")
+    }
+}
+
+impl Error for NoSuchSymbol {}

@@ -1,46 +1,64 @@
-ghost use Rattle.std.specs.Prelude.{◌≡◌};
-ghost use Rattle.std.specs.Option.{option_map};
-ghost use Rattle.kinds.specs.Codecs.{below};
-ghost use Rattle.kinds.specs.Letters.{code_point, letters};
+ghost use Rattle.std.specs.Prelude.{◌≡◌, ◌<◌, Some, refl};
+ghost use Rattle.kinds.specs.Codecs.{GivesBelow};
 ghost use Rattle.kinds.specs.Orders.{number_order};
-ghost use Rattle.kinds.specs.Laws.{each_letter, letters_faithful, number_order_lawful};
 
-use crate::kind::{Ordered, Written, by_number};
+use crate::kind::{NoSuchSymbol, Ordered, Written};
 use std::cmp::Ordering;
+use std::fmt;
 
 // How many letters there are.
 const COUNT: u32 = 1114112;
 
-// How many bytes a letter takes.
-const WIDTH: usize = 3;
-
-// A letter: a code point from 0 to 1,114,111. Values that differ by a multiple of their number are one letter.
-#[derive(Clone, Copy, Debug)]
+// A letter: a code point from 0 to 1,114,111.
+#[derive(Clone, Copy, Debug, PartialEq, Eq, PartialOrd, Ord, Hash)]
 pub struct Letter {
     code: u32,
+    ghost in_range: { code < 1114112 },
 }
 
-impl Letter {
-    // The letter of a code point, or none where the number is no code point.
-    pub fn new(code: u32) -> Option<Letter>
-        ensures { option_map code_point result ≡ below 1114112 code }
-    {
+// The letter of a code point, or an error where the number is no code point.
+impl TryFrom<u32> for Letter {
+    ghost use Rattle.kinds.specs.Letters.{code_point};
+
+    type Error = NoSuchSymbol;
+
+    ghost try_from_gives = { GivesBelow 1114112 code_point };
+
+    fn try_from(code: u32) -> Result<Letter, NoSuchSymbol> {
         if code < COUNT {
-            Some(Letter { code })
+            Ok(Letter { code })
         } else {
-            None
+            Err(NoSuchSymbol)
         }
     }
+}
 
-    // The code point.
-    pub fn code(&self) -> u32
-        ensures { result ≡ code_point self.now }
-    {
-        self.code % COUNT
+// The code point.
+impl From<Letter> for u32 {
+    ghost use Rattle.kinds.specs.Letters.{code_point};
+
+    ghost from_gives = { λ letter code. code ≡ code_point letter };
+
+    fn from(letter: Letter) -> u32 {
+        letter.code
+    }
+}
+
+// The code point in decimal.
+impl fmt::Display for Letter {
+    ghost use Rattle.kinds.specs.Letters.{letter_text};
+
+    ghost output = { λ letter. Some (letter_text letter) };
+
+    fn fmt<W: fmt::Write>(&self, f: &mut fmt::Formatter<W>) -> fmt::Result {
+        write!(f, "{}", self.code)
     }
 }
 
 impl Ordered for Letter {
+    ghost use Rattle.kinds.specs.Letters.{code_point};
+    ghost use Rattle.kinds.specs.Laws.{number_order_lawful};
+
     ghost symbol = { code_point };
 
     ghost order = { number_order };
@@ -48,29 +66,32 @@ impl Ordered for Letter {
     ghost lawful = { number_order_lawful };
 
     fn compare(&self, other: &Letter) -> Ordering {
-        by_number(self.code(), other.code())
+        self.cmp(other)
     }
 }
 
 impl Written for Letter {
+    ghost use Rattle.kinds.specs.Letters.{letters};
+    ghost use Rattle.kinds.specs.Laws.{each_letter, letters_faithful};
+
+    const WIDTH: usize = 3;
+
+    ghost WIDTH = { 3 };
+
     ghost codec = { letters };
+
+    ghost wide = { refl };
 
     ghost faithful = { letters_faithful };
 
     ghost each = { each_letter };
 
-    fn width() -> usize {
-        WIDTH
-    }
-
     fn write(&self, out: &mut [u8]) -> bool {
-        if out.len() < WIDTH {
+        let Some(front) = out.first_chunk_mut() else {
             return false;
-        }
-        let [_, high, middle, low] = self.code().to_be_bytes();
-        out[0] = high;
-        out[1] = middle;
-        out[2] = low;
+        };
+        let [_, high, middle, low] = self.code.to_be_bytes();
+        *front = [high, middle, low];
         true
     }
 
@@ -78,6 +99,6 @@ impl Written for Letter {
         let [high, middle, low] = from else {
             return None;
         };
-        Letter::new(u32::from_be_bytes([0, *high, *middle, *low]))
+        Letter::try_from(u32::from_be_bytes([0, *high, *middle, *low])).ok()
     }
 }

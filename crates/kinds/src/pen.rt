@@ -1,18 +1,17 @@
-ghost use Rattle.std.specs.Prelude.{◌≡◌, ◌<◌};
+ghost use Rattle.std.specs.Prelude.{◌≡◌, ◌<◌, Some, refl};
 ghost use Rattle.std.specs.Option.{option_map};
-ghost use Rattle.kinds.specs.Codecs.{below};
+ghost use Rattle.std.specs.Result.{result_ok};
+ghost use Rattle.kinds.specs.Codecs.{GivesBelow};
 ghost use Rattle.kinds.specs.Orders.{number_order};
-ghost use Rattle.kinds.specs.PenElements.{as_move, class_number, direction_number, element_number, pen_elements};
+ghost use Rattle.kinds.specs.PenElements.{as_move, class_number, direction_number, element_number, element_text, pen_elements};
 ghost use Rattle.kinds.specs.Laws.{each_element, number_order_lawful, pen_elements_faithful};
 
-use crate::kind::{Ordered, Written, by_number};
+use crate::kind::{NoSuchSymbol, Ordered, Written};
 use std::cmp::Ordering;
-
-// How many bytes a pen element takes.
-const WIDTH: usize = 1;
+use std::fmt;
 
 // The direction of a move, 0 to 15. The rules number the directions and name them no further.
-#[derive(Clone, Copy, Debug)]
+#[derive(Clone, Copy, Debug, PartialEq, Eq, Hash)]
 pub enum Direction {
     D0,
     D1,
@@ -32,41 +31,45 @@ pub enum Direction {
     D15,
 }
 
-impl Direction {
-    // The direction of a number, or none from 16 on.
-    pub fn new(number: u8) -> Option<Direction>
-        ensures { option_map direction_number result ≡ below 16 number }
-    {
+// The direction of a number, or an error from 16 on.
+impl TryFrom<u8> for Direction {
+    type Error = NoSuchSymbol;
+
+    ghost try_from_gives = { GivesBelow 16 direction_number };
+
+    fn try_from(number: u8) -> Result<Direction, NoSuchSymbol> {
         match number {
-            0 => Some(Direction::D0),
-            1 => Some(Direction::D1),
-            2 => Some(Direction::D2),
-            3 => Some(Direction::D3),
-            4 => Some(Direction::D4),
-            5 => Some(Direction::D5),
-            6 => Some(Direction::D6),
-            7 => Some(Direction::D7),
-            8 => Some(Direction::D8),
-            9 => Some(Direction::D9),
-            10 => Some(Direction::D10),
-            11 => Some(Direction::D11),
-            12 => Some(Direction::D12),
-            13 => Some(Direction::D13),
-            14 => Some(Direction::D14),
-            15 => Some(Direction::D15),
-            _ => None,
+            0 => Ok(Direction::D0),
+            1 => Ok(Direction::D1),
+            2 => Ok(Direction::D2),
+            3 => Ok(Direction::D3),
+            4 => Ok(Direction::D4),
+            5 => Ok(Direction::D5),
+            6 => Ok(Direction::D6),
+            7 => Ok(Direction::D7),
+            8 => Ok(Direction::D8),
+            9 => Ok(Direction::D9),
+            10 => Ok(Direction::D10),
+            11 => Ok(Direction::D11),
+            12 => Ok(Direction::D12),
+            13 => Ok(Direction::D13),
+            14 => Ok(Direction::D14),
+            15 => Ok(Direction::D15),
+            _ => Err(NoSuchSymbol),
         }
     }
+}
 
-    pub fn number(self) -> u8
-        ensures { (result ≡ direction_number self) × (result < 16) }
-    {
-        self as u8
+impl From<Direction> for u8 {
+    ghost from_gives = { λ direction number. (number ≡ direction_number direction) × (number < 16) };
+
+    fn from(direction: Direction) -> u8 {
+        direction as u8
     }
 }
 
 // The length class of a move, 0 to 3.
-#[derive(Clone, Copy, Debug)]
+#[derive(Clone, Copy, Debug, PartialEq, Eq, Hash)]
 pub enum LengthClass {
     C0,
     C1,
@@ -74,34 +77,33 @@ pub enum LengthClass {
     C3,
 }
 
-impl LengthClass {
-    // The class of a number, or none from 4 on.
-    pub fn new(number: u8) -> Option<LengthClass>
-        ensures { option_map class_number result ≡ below 4 number }
-    {
-        match number {
-            0 => Some(LengthClass::C0),
-            1 => Some(LengthClass::C1),
-            2 => Some(LengthClass::C2),
-            3 => Some(LengthClass::C3),
-            _ => None,
-        }
-    }
+// The class of a number, or an error from 4 on.
+impl TryFrom<u8> for LengthClass {
+    type Error = NoSuchSymbol;
 
-    pub fn number(self) -> u8
-        ensures { (result ≡ class_number self) × (result < 4) }
-    {
-        match self {
-            LengthClass::C0 => 0,
-            LengthClass::C1 => 1,
-            LengthClass::C2 => 2,
-            LengthClass::C3 => 3,
+    ghost try_from_gives = { GivesBelow 4 class_number };
+
+    fn try_from(number: u8) -> Result<LengthClass, NoSuchSymbol> {
+        match number {
+            0 => Ok(LengthClass::C0),
+            1 => Ok(LengthClass::C1),
+            2 => Ok(LengthClass::C2),
+            3 => Ok(LengthClass::C3),
+            _ => Err(NoSuchSymbol),
         }
     }
 }
 
+impl From<LengthClass> for u8 {
+    ghost from_gives = { λ class number. (number ≡ class_number class) × (number < 4) };
+
+    fn from(class: LengthClass) -> u8 {
+        class as u8
+    }
+}
+
 // What a pen does: it is lifted, or it moves.
-#[derive(Clone, Copy, Debug)]
+#[derive(Clone, Copy, Debug, PartialEq, Eq, Hash)]
 pub enum PenElement {
     Lift,
     Move {
@@ -111,32 +113,52 @@ pub enum PenElement {
 }
 
 impl PenElement {
-    // A move by its numbers, or none where one is out of range.
-    pub fn moved(direction: u8, class: u8) -> Option<PenElement>
-        ensures { option_map element_number result ≡ as_move direction class }
+    // A move by its numbers, or an error where one is out of range.
+    pub fn moved(direction: u8, class: u8) -> Result<PenElement, NoSuchSymbol>
+        ensures { option_map element_number (result_ok result) ≡ as_move direction class }
     {
-        let direction = Direction::new(direction)?;
-        let class = LengthClass::new(class)?;
-        Some(PenElement::Move { direction, class })
+        let direction = Direction::try_from(direction)?;
+        let class = LengthClass::try_from(class)?;
+        Ok(PenElement::Move { direction, class })
     }
+}
 
-    // The element of a number among the 65, or none from 65 on.
-    pub fn new(number: u8) -> Option<PenElement>
-        ensures { option_map element_number result ≡ below 65 number }
-    {
-        if number == 0 {
-            return Some(PenElement::Lift);
+// The element of a number among the 65, or an error from 65 on.
+impl TryFrom<u8> for PenElement {
+    type Error = NoSuchSymbol;
+
+    ghost try_from_gives = { GivesBelow 65 element_number };
+
+    fn try_from(number: u8) -> Result<PenElement, NoSuchSymbol> {
+        match number {
+            0 => Ok(PenElement::Lift),
+            _ => PenElement::moved((number - 1) / 4, (number - 1) % 4),
         }
-        PenElement::moved((number - 1) / 4, (number - 1) % 4)
     }
+}
 
-    // The element's number among the 65, in their order: a lift is 0, a move 1 + 4 × direction + class.
-    pub fn number(self) -> u8
-        ensures { (result ≡ element_number self) × (result < 65) }
-    {
-        match self {
+// The element's number among the 65, in their order: a lift is 0, a move 1 + 4 × direction + class.
+impl From<PenElement> for u8 {
+    ghost from_gives = { λ element number. (number ≡ element_number element) × (number < 65) };
+
+    fn from(element: PenElement) -> u8 {
+        match element {
             PenElement::Lift => 0,
-            PenElement::Move { direction, class } => 1 + 4 * direction.number() + class.number(),
+            PenElement::Move { direction, class } => 1 + 4 * u8::from(direction) + u8::from(class),
+        }
+    }
+}
+
+// `0` for a lift, and for a move its direction and class, as `3/1`.
+impl fmt::Display for PenElement {
+    ghost output = { λ element. Some (element_text element) };
+
+    fn fmt<W: fmt::Write>(&self, f: &mut fmt::Formatter<W>) -> fmt::Result {
+        match self {
+            PenElement::Lift => f.write_str("0"),
+            PenElement::Move { direction, class } => {
+                write!(f, "{}/{}", u8::from(*direction), u8::from(*class))
+            }
         }
     }
 }
@@ -148,27 +170,30 @@ impl Ordered for PenElement {
 
     ghost lawful = { number_order_lawful };
 
+    // By number: a derived order tests variant after variant, and takes about twice the time.
     fn compare(&self, other: &PenElement) -> Ordering {
-        by_number(u32::from(self.number()), u32::from(other.number()))
+        u8::from(*self).cmp(&u8::from(*other))
     }
 }
 
 impl Written for PenElement {
+    const WIDTH: usize = 1;
+
+    ghost WIDTH = { 1 };
+
     ghost codec = { pen_elements };
+
+    ghost wide = { refl };
 
     ghost faithful = { pen_elements_faithful };
 
     ghost each = { each_element };
 
-    fn width() -> usize {
-        WIDTH
-    }
-
     fn write(&self, out: &mut [u8]) -> bool {
-        if out.len() < WIDTH {
+        let Some(first) = out.first_mut() else {
             return false;
-        }
-        out[0] = self.number();
+        };
+        *first = u8::from(*self);
         true
     }
 
@@ -176,6 +201,6 @@ impl Written for PenElement {
         let [number] = from else {
             return None;
         };
-        PenElement::new(*number)
+        PenElement::try_from(*number).ok()
     }
 }
