@@ -1,5 +1,5 @@
 -- Words, read and written piece by piece.
-use Rattle.std.proofs.Common.{◌≡◌, ◌≢◌, ℕ, ◌+◌, ◌<◌, false, cond, ◌==◌, List, [], ◌∷◌, ◌++◌, length, get_or, take, drop, Some, None, Option, codes, sym, refl, ap, ◌∙◌, append_assoc, append-nil, arith}
+use Rattle.std.proofs.Common.{◌≡◌, ◌≢◌, ℕ, ◌+◌, ◌<◌, false, cond, ◌==◌, List, [], ◌∷◌, ◌++◌, length, get_or, take, drop, Some, None, Option, codes, sym, refl, ap, ◌∙◌, append-nil, arith}
 use Rattle.std.specs.List.{flat_map}
 use Rattle.std.specs.Str.{bytes_eq}
 use Rattle.std.proofs.lemmas.Bool.{ne_eqb}
@@ -39,12 +39,9 @@ module _ {S : Type 0} (piece : S → List ℕ) where
   dotted s = codes "." ++ piece s
 
   -- one piece more
-  pub text_more : (rest : List S) (i : ℕ) (s : S) (base was dot text : List ℕ) → i < length rest → s ≡ get_or rest i s → was ≡ base ++ flat_map dotted (take i rest) → dot ≡ was ++ codes "." → text ≡ dot ++ piece s
-      → text ≡ base ++ flat_map dotted (take (i + 1) rest)
-  text_more rest i s base was dot text h e w d t =
+  pub text_more : (rest : List S) (i : ℕ) (s : S) (base was text : List ℕ) → i < length rest → s ≡ get_or rest i s → was ≡ base ++ flat_map dotted (take i rest) → text ≡ was ++ dotted s → text ≡ base ++ flat_map dotted (take (i + 1) rest)
+  text_more rest i s base was text h e w t =
       t
-      ∙ ap (λ (z : List ℕ). z ++ piece s) d
-      ∙ append_assoc was (codes ".") (piece s)
       ∙ ap (λ (z : List ℕ). z ++ dotted s) w
       ∙ flat_map_more dotted base (take i rest) s
       ∙ ap (λ (z : List S). base ++ flat_map dotted z) (sym (take_more rest i s h ∙ ap (λ (x : S). take i rest ++ (x ∷ [])) (sym e)))

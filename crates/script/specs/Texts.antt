@@ -1,13 +1,11 @@
 -- Numbers, bytes and words as a script writes them.
-use Rattle.std.specs.Prelude.{ℕ, ◌+◌, ◌-◌, ◌*◌, ◌/◌, ◌%◌, ◌^◌, Bool, cond, ◌&&◌, List, [], ◌∷◌, ◌++◌, length, Some, None, codes, decimal, Option, nat_le, nat_lt, ◌==◌, drop, slice_index}
+use Rattle.std.specs.Prelude.{ℕ, ◌+◌, ◌-◌, ◌*◌, ◌/◌, ◌%◌, ◌^◌, Bool, cond, ◌&&◌, List, [], ◌∷◌, ◌++◌, length, Some, None, codes, Option, nat_le, nat_lt, ◌==◌, drop, slice_index}
 use Rattle.std.specs.Str.Parse.{digits_value}
 use Rattle.std.specs.List.{after_first, before_first, flat_map, position_or_len, slice_split}
 use Rattle.std.specs.Option.{option_and_then}
 use Rattle.std.specs.Str.{all_ascii_digits, bytes_eq}
-use Rattle.kinds.specs.declared.pen.PenElement.{PenElement}
-use Rattle.kinds.specs.declared.pen.PenElement.TheVariants.{Lift, Move}
 use Rattle.kinds.specs.Codecs.{below}
-use Rattle.kinds.specs.PenElements.{as_move, class_number, direction_number}
+use Rattle.kinds.specs.PenElements.{as_move}
 
 -- digits alone, one at least, that write a number of so many bits
 abbrev pub numeral : ℕ → List ℕ → Option ℕ
@@ -96,11 +94,6 @@ pieces_of = slice_split (λ c. c == 46)
 abbrev pub word_in : (List ℕ → Option ℕ) → (List ℕ → Option (List ℕ)) → List ℕ → Option (List ℕ)
 word_in of_piece of_text text =
     cond (bytes_eq text (codes "-")) (Some []) (cond (slice_index text 0 == 61) (of_text (drop 1 text)) (all_in of_piece (pieces_of text)))
-
--- a pen element: `0` for a lift, `D/C` for a move of direction D and length class C
-abbrev pub element_text : PenElement → List ℕ
-element_text Lift = codes "0"
-element_text (Move d c) = decimal (direction_number d) ++ (codes "/" ++ decimal (class_number c))
 
 -- a word: its pieces joined by full stops, and `-` without symbols
 abbrev pub text_of_word : {S : Type 0} → (S → List ℕ) → List S → List ℕ

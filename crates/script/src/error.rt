@@ -1,11 +1,12 @@
-ghost use Rattle.std.specs.Prelude.{◌≡◌};
+ghost use Rattle.std.specs.Prelude.{◌≡◌, Some};
 ghost use Rattle.script.specs.declared.error.ReadError.TheVariants.{OutOfMemory};
+ghost use Rattle.script.specs.Reads.{error_text};
 
 use std::alloc::{AllocError, AllocFailed};
 use std::error::Error;
 use std::fmt;
 
-// Why a text of a script gives nothing.
+// Why a text of a script gives nothing: it cannot be read, or memory ran out over it.
 #[derive(Clone, Copy, Debug, PartialEq, Eq, Hash)]
 pub enum ReadError {
     Unreadable,
@@ -13,10 +14,12 @@ pub enum ReadError {
 }
 
 impl fmt::Display for ReadError {
+    ghost output = { λ e. Some (error_text e) };
+
     fn fmt<W: fmt::Write>(&self, f: &mut fmt::Formatter<W>) -> fmt::Result {
         f.write_str(match self {
-            ReadError::Unreadable => "cannot be read",
-            ReadError::OutOfMemory => "out of memory",
+            Self::Unreadable => "cannot be read",
+            Self::OutOfMemory => "out of memory",
         })
     }
 }
@@ -34,7 +37,7 @@ impl From<AllocError> for ReadError {
 impl<T: Drop> From<AllocFailed<T>> for ReadError {
     ghost from_gives = { λ _ e. e ≡ OutOfMemory };
 
-    fn from(_error: AllocFailed<T>) -> ReadError {
-        ReadError::OutOfMemory
+    fn from(error: AllocFailed<T>) -> ReadError {
+        ReadError::from(AllocError::from(error))
     }
 }

@@ -4,4 +4,6 @@
 pub mod command;
 pub mod error;
 pub mod symbol;
+#[cfg(test)]
+mod tests;
 pub mod text;

@@ -1,9 +1,10 @@
-ghost use Rattle.std.specs.Prelude.{◌≡◌, ℕ, List, [], ◌++◌, IfOk, Some, Option, map, vec_items, string_bytes, codes, decimal};
+ghost use Rattle.std.specs.Prelude.{◌≡◌, ℕ, List, [], IfOk, Some, Option, map, vec_items, string_bytes, codes};
 ghost use Rattle.std.specs.Option.{option_map};
 ghost use Rattle.std.specs.Str.{chars};
-ghost use Rattle.kinds.specs.Letters.{code_point};
+ghost use Rattle.kinds.specs.Letters.{letter_text};
+ghost use Rattle.kinds.specs.PenElements.{element_text};
 ghost use Rattle.script.specs.Reads.{Reads};
-ghost use Rattle.script.specs.Texts.{element_in, element_text, letter_in, no_text, text_of_word, word_in};
+ghost use Rattle.script.specs.Texts.{element_in, letter_in, no_text, text_of_word, word_in};
 
 use crate::error::ReadError;
 use crate::text::number;
@@ -11,9 +12,10 @@ use kinds::kind::Written;
 use kinds::letter::Letter;
 use kinds::pen::PenElement;
 use std::alloc::{AllocError, Global};
+use std::fmt::Display;
 
-// A kind of symbol as a script writes it.
-pub trait Symbol: Written {
+// A kind of symbol as a script writes it, which is what it prints.
+pub trait Symbol: Written + Display {
     // what a script writes for the symbol
     ghost piece: { Self → List ℕ };
 
@@ -23,10 +25,6 @@ pub trait Symbol: Written {
     // the numbers of the symbols that are a text's characters, where the kind has such words
     ghost of_text: { List ℕ → Option (List ℕ) };
 
-    // What a script writes for the symbol.
-    fn piece(&self, heap: Global) -> Result<String, AllocError>
-        ensures { IfOk result (λ s. string_bytes s ≡ piece self.now) };
-
     // The symbol that one piece of a word writes, or none.
     fn of_piece(text: &str) -> Option<Self>
         ensures { option_map Self.Ordered.symbol result ≡ of_piece text.now };
@@ -34,29 +32,32 @@ pub trait Symbol: Written {
     // The word whose symbols are the characters of a text.
     fn word_of_text(heap: Global, text: &str) -> Result<Vec<Self>, ReadError>
         ensures { Reads (λ w. map Self.Ordered.symbol (vec_items w)) (of_text text.now) result };
+
+    // the symbol prints what a script writes for it
+    ghost prints: { (x : Self) → Self.Display.output x ≡ Some (piece x) };
 }
 
 // A letter is its code point in decimal.
 impl Symbol for Letter {
-    ghost piece = { λ l. decimal (code_point l) };
+    ghost use Rattle.std.specs.Prelude.{refl};
+
+    ghost piece = { letter_text };
 
     ghost of_piece = { letter_in };
 
     ghost of_text = { λ text. Some (chars text) };
 
-    fn piece(&self, heap: Global) -> Result<String, AllocError> {
-        let code = self.code();
-        format!(in heap; "{code}")
-    }
+    ghost prints = { λ l. refl };
 
     fn of_piece(text: &str) -> Option<Letter> {
-        Letter::new(u32::try_from(number(text)?).ok()?)
+        let code = u32::try_from(number(text)?).ok()?;
+        Letter::try_from(code).ok()
     }
 
     fn word_of_text(heap: Global, text: &str) -> Result<Vec<Letter>, ReadError> {
         let mut word = Vec::new(heap);
         for c in text.chars() {
-            let Some(letter) = Letter::new(u32::from(c)) else {
+            let Ok(letter) = Letter::try_from(u32::from(c)) else {
                 return Err(ReadError::Unreadable);
             };
             word.push(letter)?;
@@ -65,44 +66,26 @@ impl Symbol for Letter {
     }
 }
 
-// What a script writes for a move.
-fn move_text(heap: Global, direction: u8, class: u8) -> Result<String, AllocError>
-    ensures { IfOk result (λ s. string_bytes s ≡ decimal direction ++ (codes "/" ++ decimal class)) }
-{
-    format!(in heap; "{direction}/{class}")
-}
-
 // A pen element is `0` for a lift, or `D/C` for a move of direction D and length class C.
 impl Symbol for PenElement {
+    ghost use Rattle.std.specs.Prelude.{refl};
+
     ghost piece = { element_text };
 
     ghost of_piece = { element_in };
 
     ghost of_text = { no_text };
 
-    fn piece(&self, heap: Global) -> Result<String, AllocError> {
-        match self {
-            PenElement::Lift => String::from_str(heap, "0"),
-            PenElement::Move { direction, class } => {
-                move_text(heap, direction.number(), class.number())
-            }
-        }
-    }
+    ghost prints = { λ e. refl };
 
     fn of_piece(text: &str) -> Option<PenElement> {
         match text.split_once('/') {
             Some((direction, class)) => {
                 let direction = u8::try_from(number(direction)?).ok()?;
                 let class = u8::try_from(number(class)?).ok()?;
-                PenElement::moved(direction, class)
+                PenElement::moved(direction, class).ok()
             }
-            None => {
-                if number(text)? == 0 {
-                    Some(PenElement::Lift)
-                } else {
-                    None
-                }
-            }
+            None => (number(text)? == 0).then_some(PenElement::Lift),
         }
     }
 
@@ -139,10 +122,9 @@ pub fn word_text<S: Symbol>(heap: Global, word: &[S]) -> Result<String, AllocErr
     let Some((first, rest)) = word.split_first() else {
         return String::from_str(heap, "-");
     };
-    let mut text = first.piece(heap)?;
+    let mut text = first.to_string(heap)?;
     for symbol in rest {
-        text.push_str(".")?;
-        text.push_str(symbol.piece(heap)?.as_str())?;
+        write!(text, ".{symbol}")?;
     }
     Ok(text)
 }

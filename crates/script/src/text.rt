@@ -1,5 +1,5 @@
 ghost use Rattle.std.specs.Prelude.{◌≡◌, ℕ, ◌+◌, ◌<◌, ◌≤◌, length, IfSome, IfOk, vec_items, string_bytes, codes, ◌≢◌, slice_index};
-ghost use Rattle.script.specs.Texts.{byte_of, digit_of, hex_bytes, hex_digit, hex_text, numeral};
+ghost use Rattle.script.specs.Texts.{byte_of, hex_bytes, hex_digit, hex_text, numeral};
 ghost use Rattle.script.specs.Reads.{Reads};
 
 use crate::error::ReadError;
@@ -75,14 +75,6 @@ pub fn bytes(heap: Global, text: &str) -> Result<Vec<u8>, ReadError>
     Ok(bytes)
 }
 
-// The lower-case hexadecimal digit of a number below 16.
-fn digit_char(n: u8) -> char
-    requires { n < 16 }
-    ensures { result ≡ digit_of n }
-{
-    char::from(if n < 10 { b'0' + n } else { b'a' - 10 + n })
-}
-
 // Bytes as pairs of lower-case hexadecimal digits, and none as `-`.
 pub fn hex(heap: Global, bytes: &[u8]) -> Result<String, AllocError>
     ensures { IfOk result (λ s. string_bytes s ≡ hex_text bytes.now) }
@@ -92,8 +84,7 @@ pub fn hex(heap: Global, bytes: &[u8]) -> Result<String, AllocError>
     }
     let mut out = String::new(heap);
     for b in bytes {
-        out.push(digit_char(*b / 16))?;
-        out.push(digit_char(*b % 16))?;
+        write!(out, "{b:02x}")?;
     }
     Ok(out)
 }

@@ -1,6 +1,5 @@
-use Rattle.std.proofs.Common.{rules, ◌≡◌, ℕ, map, length, nat_lt, vec_items, ap, IfOk, MatchResult}
+use Rattle.std.proofs.Common.{rules, ◌≡◌, ℕ, length, nat_lt, ap}
 use Rattle.std.specs.Char.{char_set_contains}
-use Rattle.std.specs.List.{AllByRecursion}
 use Rattle.std.proofs.lemmas.Iterator.Consumers.{YieldsList-at, YieldsList-from_filter, map_from_collect}
 use Rattle.script.specs.Commands.{is_blank}
 use Rattle.script.proofs.Cuts.{YieldsList-from_split_by, blank_ascii, words_filled}

@@ -1,4 +1,4 @@
-use Rattle.std.proofs.Common.{rules, ◌≡◌, ℕ, List, [], ◌∷◌, ◌++◌, map, vec_items, Some, sym, refl, ap, ◌∙◌, arith}
+use Rattle.std.proofs.Common.{rules, ◌≡◌, ℕ, List, [], ◌∷◌, ◌++◌, map, vec_items, Some, sym, refl, ap, ◌∙◌}
 use Rattle.std.proofs.lemmas.List.{map-append, map-id}
 use Rattle.std.proofs.lemmas.Slice.{pushed}
 use Rattle.kinds.specs.Letters.{code_point}
@@ -8,8 +8,8 @@ use Rattle.script.proofs.symbol.LetterSymbol.word_of_text.Goals as goal
 
 pub loop-c-preserved : goal.loop-c-preserved
 loop-c-preserved c =
-    let code : code_point c.in-Some-new.letter ≡ c.in-Some.c = search rules in
-    ap (map code_point) (pushed (c.in-Some-new.letter ∷ []) refl c.in_ok-push.was c.push.ensures.items) ∙ map-append code_point (vec_items c.loop-c.word) (c.in-Some-new.letter ∷ [])
+    let code : code_point c.in-Ok.letter ≡ c.in-Some.c = search rules in
+    ap (map code_point) (pushed (c.in-Ok.letter ∷ []) refl c.in_ok-push.was c.push.ensures.items) ∙ map-append code_point (vec_items c.loop-c.word) (c.in-Ok.letter ∷ [])
     ∙ (λ i. c.loop-c.invariant i ++ (code i ∷ []))
 
 pub returns : goal.returns
