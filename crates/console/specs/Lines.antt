@@ -1,10 +1,43 @@
 -- What becomes of a line.
+use Rattle.std.specs.Prelude.{◌≡◌, ℕ, List, Some, None, Ok, Err, Option, Result}
+use Rattle.std.specs.declared.cmp.Ordering.{Ordering}
+use Rattle.std.specs.Option.{option_map}
+use Rattle.records.specs.Reading.{record_at}
+use Rattle.words.specs.Comparisons.{compared_from}
+use Rattle.script.specs.declared.command.Command.{Command}
+use Rattle.script.specs.declared.command.Command.TheVariants.{Bring, Compare, Record}
 use Rattle.script.specs.declared.error.ReadError.{ReadError}
 use Rattle.script.specs.declared.error.ReadError.TheVariants.{Unreadable, OutOfMemory as ReadOutOfMemory}
+use Rattle.script.specs.Texts.{hex_bytes, word_in}
+use Rattle.console.specs.declared.answer.Answer.{Answer}
 use Rattle.console.specs.declared.error.LineError.{LineError}
-use Rattle.console.specs.declared.error.LineError.TheVariants.{BadCommand, OutOfMemory}
+use Rattle.console.specs.declared.error.LineError.TheVariants.{BadCommand, NoDictionary, OutOfMemory}
+use Rattle.console.specs.Texts.{answer_text, brought_text, comparison_text, reading_text}
 
 -- a part that cannot be read makes a bad command
 abbrev pub line_error : ReadError → LineError
 line_error Unreadable = BadCommand
 line_error ReadOutOfMemory = OutOfMemory
+
+-- the comparison of two words, where both can be read
+abbrev pub words_text : (ℕ → ℕ → Ordering) → Option (List ℕ) → Option (List ℕ) → Option (List ℕ)
+words_text order (Some u) (Some v) = Some (comparison_text (compared_from order 0 u v))
+words_text order u v = None
+
+-- the record at a place of a sheet, where the sheet can be read
+abbrev pub sheet_text : ℕ → ℕ → Option (List ℕ) → Option (List ℕ)
+sheet_text width place sheet = option_map (λ s. reading_text (record_at width s place)) sheet
+
+-- what a command prints on an open dictionary of a kind, by the kind's order, its width, and how its pieces and texts are read; or nothing
+abbrev pub command_text : (ℕ → ℕ → Ordering) → ℕ → (List ℕ → Option ℕ) → (List ℕ → Option (List ℕ)) → Command → Option (List ℕ)
+command_text order width of_piece of_text (Bring strip work) = Some (brought_text strip work)
+command_text order width of_piece of_text (Compare first second) = words_text order (word_in of_piece of_text first.now) (word_in of_piece of_text second.now)
+command_text order width of_piece of_text (Record hex place) = sheet_text width place (hex_bytes hex.now)
+command_text order width of_piece of_text command = None
+
+-- an open dictionary answers what the line says, and where it says nothing the line is a bad command; memory alone may fail it otherwise
+abbrev pub Prints : Option (List ℕ) → Result Answer LineError → Type 0
+Prints said (Ok answer) = said ≡ Some (answer_text answer)
+Prints said (Err BadCommand) = said ≡ None
+Prints said (Err NoDictionary) = ⊥
+Prints said (Err OutOfMemory) = Unit {0}

@@ -1,4 +1,5 @@
 ghost use Rattle.std.specs.Prelude.{◌≡◌, IfOk, Some};
+ghost use Rattle.records.specs.Answers.{content_of};
 ghost use Rattle.console.specs.Texts.{answer_text, order_text, record_text};
 
 use limits::refusal::Refusal;
@@ -37,7 +38,7 @@ pub enum Answer {
 impl Answer {
     // A record of a sheet, and the place after it.
     pub fn recorded(heap: Global, found: Record, next: usize) -> Result<Answer, AllocError>
-        ensures { IfOk result (λ a. answer_text a ≡ record_text found.entry next) }
+        ensures { IfOk result (λ a. answer_text a ≡ record_text (content_of found.entry) next) }
     {
         match found {
             Record::Entry {

@@ -1,5 +1,8 @@
 ghost use Rattle.std.specs.Prelude.{◌≡◌, None, Ok, IfOk, IsSome, OnErr, OnOk, slice_index_or};
 ghost use Rattle.limits.specs.Capacity.{limits_for};
+ghost use Rattle.script.specs.Texts.{hex_bytes, word_in};
+ghost use Rattle.console.specs.Lines.{Prints, command_text, sheet_text, words_text};
+ghost use Rattle.console.specs.Texts.{answer_text, opened_text};
 
 use crate::answer::Answer;
 use crate::error::LineError;
@@ -23,14 +26,18 @@ pub struct Session {
 }
 
 // Compares two words of a kind.
-fn compare<S: Symbol>(heap: Global, first: &str, second: &str) -> Result<Answer, LineError> {
+fn compare<S: Symbol>(heap: Global, first: &str, second: &str) -> Result<Answer, LineError>
+    ensures { Prints (words_text S.Ordered.order (word_in S.Symbol.of_piece S.Symbol.of_text first.now) (word_in S.Symbol.of_piece S.Symbol.of_text second.now)) result }
+{
     let a = word::<S>(heap, first)?;
     let b = word::<S>(heap, second)?;
     Ok(Answer::Compared(compare_words(a.as_slice(), b.as_slice())))
 }
 
 // Reads the record of a kind at a place of a sheet.
-fn record<S: Symbol>(heap: Global, hex: &str, place: usize) -> Result<Answer, LineError> {
+fn record<S: Symbol>(heap: Global, hex: &str, place: usize) -> Result<Answer, LineError>
+    ensures { Prints (sheet_text S.Written.codec.width place (hex_bytes hex.now)) result }
+{
     let sheet = bytes(heap, hex)?;
     match read_record::<S>(sheet.as_slice(), place) {
         Ok((record, next)) => Ok(Answer::recorded(heap, record, next)?),
@@ -53,7 +60,9 @@ impl Session {
     }
 
     // What is in force after an opening.
-    fn opened(&self) -> Answer {
+    fn opened(&self) -> Answer
+        ensures { answer_text result ≡ opened_text self.now.limits.capacity self.now.limits.ceiling }
+    {
         Answer::Opened {
             capacity: self.limits.capacity(),
             ceiling: self.limits.ceiling(),
@@ -61,7 +70,10 @@ impl Session {
     }
 
     // Runs a command on this dictionary, whose symbols are of the kind S.
-    fn run<S: Symbol>(&mut self, heap: Global, command: Command) -> Result<Answer, LineError> {
+    fn run<S: Symbol>(&mut self, heap: Global, command: Command) -> Result<Answer, LineError>
+        ensures prints { Prints (command_text S.Ordered.order S.Written.codec.width S.Symbol.of_piece S.Symbol.of_text command.entry) result }
+        ensures err { OnErr result (self.new ≡ self.old) }
+    {
         match command {
             Command::Bring { strip, work } => {
                 self.strip = strip;
