@@ -1,7 +1,8 @@
 ghost use Rattle.std.specs.Prelude.{◌≡◌, None, Ok, IfOk, IsSome, OnErr, OnOk, slice_index_or};
 ghost use Rattle.limits.specs.Capacity.{limits_for};
+ghost use Rattle.script.specs.Commands.{command_of};
 ghost use Rattle.script.specs.Texts.{hex_bytes, word_in};
-ghost use Rattle.console.specs.Lines.{Prints, command_text, sheet_text, words_text};
+ghost use Rattle.console.specs.Lines.{Prints, RunsLine, command_text, sheet_text, words_text};
 ghost use Rattle.console.specs.Texts.{answer_text, opened_text};
 
 use crate::answer::Answer;
@@ -48,7 +49,7 @@ fn record<S: Symbol>(heap: Global, hex: &str, place: usize) -> Result<Answer, Li
 impl Session {
     // An empty dictionary over memory of these lengths. What is brought suffices until a script says otherwise.
     fn open(kind: Kind, table: usize, strip: usize, ceiling: usize) -> Session
-        ensures { (result.limits ≡ limits_for table strip ceiling) × (result.strip ≡ result.limits.ceiling) × (result.work ≡ result.limits.capacity) }
+        ensures { (result.kind ≡ kind) × (result.limits ≡ limits_for table strip ceiling) × (result.strip ≡ result.limits.ceiling) × (result.work ≡ result.limits.capacity) }
     {
         let limits = Limits::new(table, strip, ceiling);
         Session {
@@ -98,6 +99,7 @@ fn run_words(
     session: &mut Option<Session>,
     words: &[&str],
 ) -> Result<Answer, LineError>
+    ensures line { RunsLine session.old words.now (command_of words.now) result session.new }
     ensures err { OnErr result (session.new ≡ session.old) }
     ensures open { OnOk result (IsSome session.new) }
 {
