@@ -1,9 +1,9 @@
 -- What becomes of a line.
-use Rattle.std.specs.Prelude.{◌≡◌, ℕ, Bool, false, cond, List, [], ◌∷◌, Some, None, Ok, Err, codes, IsSomeAnd, Option, Result}
+use Rattle.std.specs.Prelude.{◌≡◌, ◌⊎◌, ℕ, Bool, false, cond, is_some, map, slice_index_or, List, [], ◌∷◌, Some, None, Ok, Err, codes, IsSomeAnd, Option, Result}
 use Rattle.std.specs.Borrow.{Bor}
 use Rattle.std.specs.declared.cmp.Ordering.{Ordering}
 use Rattle.std.specs.Option.{option_and_then, option_map}
-use Rattle.std.specs.Str.{bytes_eq, chars}
+use Rattle.std.specs.Str.{IsUtf8, bytes_eq, chars}
 use Rattle.kinds.specs.Letters.{letters}
 use Rattle.kinds.specs.Orders.{number_order}
 use Rattle.kinds.specs.PenElements.{pen_elements}
@@ -14,7 +14,7 @@ use Rattle.script.specs.declared.command.Command.{Command}
 use Rattle.script.specs.declared.command.Command.TheVariants.{Open, Bring, Compare, Record}
 use Rattle.script.specs.declared.command.Kind.{Kind}
 use Rattle.script.specs.declared.command.Kind.TheVariants.{Letters, Pen}
-use Rattle.script.specs.Commands.{command_of}
+use Rattle.script.specs.Commands.{command_of, words_of}
 use Rattle.script.specs.declared.error.ReadError.{ReadError}
 use Rattle.script.specs.declared.error.ReadError.TheVariants.{Unreadable, OutOfMemory as ReadOutOfMemory}
 use Rattle.script.specs.Texts.{element_in, hex_bytes, letter_in, no_text, word_in}
@@ -73,3 +73,14 @@ RunsLine old words (Some (Open kind table strip ceiling)) r new =
     let limits = limits_for table strip ceiling in
     Prints (Some (opened_text limits.capacity limits.ceiling)) r × IsSomeAnd new (λ session. (session.kind ≡ kind) × (session.limits ≡ limits))
 RunsLine old words command r new = AnswersLine old words r
+
+-- what becomes of the words of a line
+abbrev pub RunsWords : Option Session → List ℕ → Result Answer LineError → Option Session → Type 0
+RunsWords old line r new = (words : List (Bor (List ℕ))) × (map (λ w. w.now) words ≡ words_of line) × RunsLine old words (command_of words) r new
+
+-- what becomes of a line: it is passed over only where it is empty, begins with `#` or has no words, and it may be no text
+abbrev pub RunsText : Option Session → List ℕ → Result (Option Answer) LineError → Option Session → Type 0
+RunsText old line (Ok None) new = (slice_index_or line 0 35 ≡ 35) ⊎ (words_of line ≡ [])
+RunsText old line (Ok (Some answer)) new = RunsWords old line (Ok answer) new
+RunsText old line (Err OutOfMemory) new = Unit {0}
+RunsText old line (Err e) new = ((¬ (IsUtf8 line)) × (e ≡ cond (is_some old) BadCommand NoDictionary)) ⊎ RunsWords old line (Err e) new

@@ -2,7 +2,7 @@ ghost use Rattle.std.specs.Prelude.{◌≡◌, None, Ok, IfOk, IsSome, OnErr, On
 ghost use Rattle.limits.specs.Capacity.{limits_for};
 ghost use Rattle.script.specs.Commands.{command_of};
 ghost use Rattle.script.specs.Texts.{hex_bytes, word_in};
-ghost use Rattle.console.specs.Lines.{Prints, RunsLine, command_text, sheet_text, words_text};
+ghost use Rattle.console.specs.Lines.{Prints, RunsLine, RunsText, command_text, sheet_text, words_text};
 ghost use Rattle.console.specs.Texts.{answer_text, opened_text};
 
 use crate::answer::Answer;
@@ -140,6 +140,7 @@ pub fn run_line(
     session: &mut Option<Session>,
     line: &[u8],
 ) -> Result<Option<Answer>, LineError>
+    ensures line { RunsText session.old line.now result session.new }
     ensures passed { slice_index_or line.now 0 35 ≡ 35 → (result ≡ Ok None) × (session.new ≡ session.old) }
     ensures err { OnErr result (session.new ≡ session.old) }
     ensures open { IfOk result (λ answer. IsSome answer → IsSome session.new) }
