@@ -1,18 +1,25 @@
 -- Words, read and written piece by piece.
-use Rattle.std.proofs.Common.{◌≡◌, ◌≢◌, ℕ, ◌+◌, ◌<◌, false, cond, ◌==◌, List, [], ◌∷◌, ◌++◌, length, get_or, take, drop, Some, None, Option, codes, sym, refl, ap, ◌∙◌, append-nil, arith}
+use Rattle.std.proofs.Common.{◌≡◌, ◌≢◌, ℕ, ◌+◌, ◌<◌, false, cond, ◌==◌, List, [], ◌∷◌, ◌++◌, length, get_or, take, drop, Some, None, Option, codes, sym, refl, ap, ◌∙◌, append-nil, lit<, arith}
 use Rattle.std.specs.List.{flat_map}
 use Rattle.std.specs.Str.{bytes_eq}
+use Rattle.std.proofs.Math.Utf8.{encode}
 use Rattle.std.proofs.lemmas.Bool.{ne_eqb}
 use Rattle.std.proofs.lemmas.List.{drop_more, drop_all, flat_map_more, take_more}
+use Rattle.std.proofs.lemmas.Str.{encode_ascii}
 use Rattle.script.specs.Texts.{all_in, before, pieces_of, word_in}
 use Rattle.script.proofs.Hex.{after, after_before}
 
 -- a text that is not `-` and does not begin with `=` is read by its pieces
-pub by_pieces : (of_piece : List ℕ → Option ℕ) (of_text : List ℕ → Option (List ℕ)) (text : List ℕ) → bytes_eq text (codes "-") ≡ false → ((rest : List ℕ) → text ≢ 61 ∷ rest) → word_in of_piece of_text text ≡ all_in of_piece (pieces_of text)
+by_pieces : (of_piece : List ℕ → Option ℕ) (of_text : List ℕ → Option (List ℕ)) (text : List ℕ) → bytes_eq text (codes "-") ≡ false → ((rest : List ℕ) → text ≢ encode 61 ++ rest) → word_in of_piece of_text text ≡ all_in of_piece (pieces_of text)
 by_pieces of_piece of_text [] dash equals = refl
 by_pieces of_piece of_text (c ∷ text) dash equals =
     ap (λ b. cond b (Some []) (cond (c == 61) (of_text text) (all_in of_piece (pieces_of (c ∷ text))))) dash
-    ∙ ap (λ b. cond b (of_text text) (all_in of_piece (pieces_of (c ∷ text)))) (ne_eqb c 61 (λ e. equals text (ap (λ (d : ℕ). d ∷ text) e)))
+    ∙ ap (λ b. cond b (of_text text) (all_in of_piece (pieces_of (c ∷ text)))) (ne_eqb c 61 (λ e. equals text (ap (λ (d : ℕ). d ∷ text) e ∙ ap (λ (l : List ℕ). l ++ text) (sym (encode_ascii 61 (lit< tt))))))
+
+module _ (of_piece : List ℕ → Option ℕ) (of_text : List ℕ → Option (List ℕ)) (text : List ℕ) (dash : bytes_eq text (codes "-") ≡ false) (equals : (rest : List ℕ) → text ≢ encode 61 ++ rest) (o : Option (List ℕ)) where
+  -- so the word is what its pieces are
+  pub word_is : all_in of_piece (pieces_of text) ≡ o → word_in of_piece of_text text ≡ o
+  word_is e = by_pieces of_piece of_text text dash equals ∙ e
 
 module _ (of_piece : List ℕ → Option ℕ) (pieces : List (List ℕ)) where
   -- the pieces before a place gave these numbers

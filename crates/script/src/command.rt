@@ -104,7 +104,7 @@ fn value(word: &str) -> Option<u32>
 }
 
 impl<'a> Command<'a> {
-    // The command of a line's words, or none where it cannot be read.
+    // The command of a line's words, or none where it cannot be read. An Option says all that TryFrom's error would.
     pub fn new(words: &[&'a str]) -> Option<Command<'a>>
         ensures command { result ≡ command_of words.now }
         ensures worded { Worded (length words.now) result }

@@ -25,18 +25,14 @@ pub fn line_end(script: &[u8], from: usize) -> usize
 pub fn number(text: &str) -> Option<u64>
     ensures { result ≡ numeral 64 text.now }
 {
-    let digits = text.as_bytes();
-    if digits.is_empty() {
-        return None;
-    }
     // `parse` takes a sign, which no number here has.
-    if digits[0] == b'+' {
+    if text.starts_with('+') {
         return None;
     }
     text.parse::<u64>().ok()
 }
 
-// The value of a hexadecimal digit of either case.
+// The value of a hexadecimal digit of either case. The library's `to_digit`, of a char and into a u32, makes it no shorter.
 fn digit(c: u8) -> Option<u8>
     ensures { (result ≡ hex_digit c) × (IfSome result (λ d. d < 16)) }
 {
