@@ -10,13 +10,13 @@ use Rattle.script.specs.Texts.{all_in, before, pieces_of, word_in}
 use Rattle.script.proofs.Hex.{after, after_before}
 
 -- a text that is not `-` and does not begin with `=` is read by its pieces
-by_pieces : (of_piece : List ℕ → Option ℕ) (of_text : List ℕ → Option (List ℕ)) (text : List ℕ) → bytes_eq text (codes "-") ≡ false → ((rest : List ℕ) → text ≢ encode 61 ++ rest) → word_in of_piece of_text text ≡ all_in of_piece (pieces_of text)
+by_pieces : (of_piece : List ℕ → Option ℕ) (of_text : List ℕ → Option (List ℕ)) (text : List ℕ) → false ≡ bytes_eq text (codes "-") → ((rest : List ℕ) → text ≢ encode 61 ++ rest) → word_in of_piece of_text text ≡ all_in of_piece (pieces_of text)
 by_pieces of_piece of_text [] dash equals = refl
 by_pieces of_piece of_text (c ∷ text) dash equals =
-    ap (λ b. cond b (Some []) (cond (c == 61) (of_text text) (all_in of_piece (pieces_of (c ∷ text))))) dash
+    ap (λ b. cond b (Some []) (cond (c == 61) (of_text text) (all_in of_piece (pieces_of (c ∷ text))))) (sym dash)
     ∙ ap (λ b. cond b (of_text text) (all_in of_piece (pieces_of (c ∷ text)))) (ne_eqb c 61 (λ e. equals text (ap (λ (d : ℕ). d ∷ text) e ∙ ap (λ (l : List ℕ). l ++ text) (sym (encode_ascii 61 (lit< tt))))))
 
-module _ (of_piece : List ℕ → Option ℕ) (of_text : List ℕ → Option (List ℕ)) (text : List ℕ) (dash : bytes_eq text (codes "-") ≡ false) (equals : (rest : List ℕ) → text ≢ encode 61 ++ rest) (o : Option (List ℕ)) where
+module _ (of_piece : List ℕ → Option ℕ) (of_text : List ℕ → Option (List ℕ)) (text : List ℕ) (dash : false ≡ bytes_eq text (codes "-")) (equals : (rest : List ℕ) → text ≢ encode 61 ++ rest) (o : Option (List ℕ)) where
   -- so the word is what its pieces are
   pub word_is : all_in of_piece (pieces_of text) ≡ o → word_in of_piece of_text text ≡ o
   word_is e = by_pieces of_piece of_text text dash equals ∙ e

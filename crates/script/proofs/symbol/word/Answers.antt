@@ -17,7 +17,7 @@ pub returns-in_default-of_piece-clause-symbols : goal.returns-in_default-of_piec
 returns-in_default-of_piece-clause-symbols g c =
     let road = YieldsList-at c.into_iter-piece-iterator.ensures.into_iter_gives (YieldsList-from_str_split 46 c.args.text.now (lit< tt) c.split-piece-items.ensures.text c.split-piece-items.ensures.has_more c.split-piece-items.ensures.pattern) in
     let (room, is) = YieldsList-turn road c.loop-piece.yielded _ c.loop-piece.yielded_by _ _ c.in-Some-piece.piece c.in-Some-piece.is c.next.ensures.steps in
-    word_is g.S.Symbol.of_piece g.S.Symbol.of_text c.args.text.now (sym c.eq.ensures ∙ c.if-eq.false) c.in_default.ensures.cases None
+    word_is g.S.Symbol.of_piece g.S.Symbol.of_text c.args.text.now c.if-eq.ensures c.in_default.ensures.cases None
     (none_read g.S.Symbol.of_piece (pieces_of c.args.text.now) (length c.loop-piece.yielded) c.in-Some-piece.piece.now (map g.S.Ordered.symbol (vec_items c.loop-piece.word)) room is c.loop-piece.invariant c.in_default-of_piece.ensures)
 
 pub loop-piece-preserved : goal.loop-piece-preserved
@@ -37,5 +37,5 @@ returns-clause-symbols g c =
     let road = YieldsList-at c.into_iter-piece-iterator.ensures.into_iter_gives (YieldsList-from_str_split 46 c.args.text.now (lit< tt) c.split-piece-items.ensures.text c.split-piece-items.ensures.has_more c.split-piece-items.ensures.pattern) in
     let (_, end) = YieldsList-end road c.loop-piece.yielded _ c.loop-piece.yielded_by _ _ c.in-None.is c.next.ensures.steps in
     let symbols = map g.S.Ordered.symbol (vec_items c.loop-piece.word) in
-    word_is g.S.Symbol.of_piece g.S.Symbol.of_text c.args.text.now (sym c.eq.ensures ∙ c.if-eq.false) c.in_default.ensures.cases (Some symbols)
+    word_is g.S.Symbol.of_piece g.S.Symbol.of_text c.args.text.now c.if-eq.ensures c.in_default.ensures.cases (Some symbols)
     (all_read g.S.Symbol.of_piece (pieces_of c.args.text.now) (length c.loop-piece.yielded) symbols end c.loop-piece.invariant)
