@@ -1,61 +1,68 @@
--- What the console reads and prints.
-use Rattle.std.specs.Prelude.{◌≡◌, ℕ, ◌+◌, ◌-◌, ◌*◌, ◌/◌, ◌%◌, ◌^◌, Bool, cond, ◌&&◌, List, [], ◌∷◌, ◌++◌, length, Some, None, codes, decimal, Option, nat_le, nat_lt}
+-- What the console prints.
+use Rattle.std.specs.Prelude.{ℕ, List, ◌++◌, Ok, Err, codes, decimal, Result, string_bytes}
 use Rattle.std.specs.declared.cmp.Ordering.TheVariants.{Less, Equal, Greater}
 use Rattle.std.specs.declared.cmp.Ordering.{Ordering}
-use Rattle.std.specs.Str.Parse.{digits_value}
-use Rattle.std.specs.List.{flat_map}
-use Rattle.std.specs.Str.{all_ascii_digits}
-use Rattle.records.specs.declared.record.Record.{Record}
-use Rattle.records.specs.declared.record.Record.TheVariants.{Entry, Closing}
-
--- digits alone, one at least, that write a number of so many bits
-abbrev pub numeral : ℕ → List ℕ → Option ℕ
-numeral bits text = cond (all_ascii_digits text && (nat_lt 0 (length text) && nat_lt (digits_value 10 text) (2 ^ bits))) (Some (digits_value 10 text)) None
-
-abbrev pub between : ℕ → ℕ → ℕ → Bool
-between low high n = nat_le low n && nat_le n high
-
--- a hexadecimal digit of either case
-abbrev pub hex_digit : ℕ → Option ℕ
-hex_digit c =
-    cond (between 48 57 c) (Some (c - 48)) (cond (between 97 102 c) (Some (c - 97 + 10)) (cond (between 65 70 c) (Some (c - 65 + 10)) None))
+use Rattle.limits.specs.Refusals.{Told, detail_text, told}
+use Rattle.records.specs.Marks.{child_code}
+use Rattle.records.specs.declared.record.Numbers.{Numbers}
+use Rattle.records.specs.Reading.{Read}
+use Rattle.records.specs.Records.{Content, closing, entry}
+use Rattle.script.specs.Texts.{hex_text}
+use Rattle.words.specs.declared.comparison.Comparison.{Comparison}
+use Rattle.console.specs.declared.answer.Answer.{Answer}
+use Rattle.console.specs.declared.answer.Answer.TheVariants.{Opened, Brought, Compared, Entry, Closing, Refused}
+use Rattle.console.specs.declared.error.LineError.{LineError}
+use Rattle.console.specs.declared.error.LineError.TheVariants.{BadCommand, NoDictionary, OutOfMemory}
 
 abbrev pub order_text : Ordering → List ℕ
 order_text Less = codes "before"
 order_text Equal = codes "same"
 order_text Greater = codes "after"
 
--- the lower-case digit of a number below 16
-abbrev pub digit_of : ℕ → ℕ
-digit_of n = cond (nat_lt n 10) (48 + n) (87 + n)
+-- `entry CHILD WEIGHT TAG LEFT RIGHT SYMBOLHEX next P`
+abbrev pub entry_text : Numbers → List ℕ → ℕ → List ℕ
+entry_text numbers symbols next =
+    codes "entry "
+    ++ (decimal (child_code numbers.children)
+    ++ (codes " "
+    ++ (decimal numbers.weight
+    ++ (codes " " ++ (decimal numbers.tag ++ (codes " " ++ (decimal numbers.left ++ (codes " " ++ (decimal numbers.right ++ (codes " " ++ (symbols ++ (codes " next " ++ decimal next))))))))))))
 
-abbrev pub hex_pair : ℕ → List ℕ
-hex_pair b = digit_of (b / 16) ∷ (digit_of (b % 16) ∷ [])
+-- `closing COUNT next P`
+abbrev pub closing_text : ℕ → ℕ → List ℕ
+closing_text count next = codes "closing " ++ (decimal count ++ (codes " next " ++ decimal next))
 
--- bytes as pairs of lower-case digits, and none as `-`
-abbrev pub hex_text : List ℕ → List ℕ
-hex_text [] = codes "-"
-hex_text (b ∷ bs) = flat_map hex_pair (b ∷ bs)
+-- a record of a sheet, and the place after it
+abbrev pub record_text : Content → ℕ → List ℕ
+record_text (entry numbers size symbols) next = entry_text numbers (hex_text symbols) next
+record_text (closing count) next = closing_text count next
 
--- a byte from two digits
-abbrev pub byte_of : Option ℕ → Option ℕ → Option ℕ
-byte_of None low = None
-byte_of (Some high) None = None
-byte_of (Some high) (Some low) = Some (high * 16 + low)
+abbrev pub told_text : Told → List ℕ
+told_text t = codes "refused " ++ (decimal t.number ++ detail_text t.detail)
 
--- a byte and what follows it, where both are there
-abbrev pub before : Option ℕ → Option (List ℕ) → Option (List ℕ)
-before None bs = None
-before (Some b) None = None
-before (Some b) (Some bs) = Some (b ∷ bs)
+-- what reading a record of a sheet comes to
+abbrev pub reading_text : Result Read Told → List ℕ
+reading_text (Ok r) = record_text r.content r.next
+reading_text (Err t) = told_text t
 
--- the bytes of pairs of digits
-abbrev pub hex_pairs : List ℕ → Option (List ℕ)
-hex_pairs [] = Some []
-hex_pairs (h ∷ []) = None
-hex_pairs (h ∷ (l ∷ ds)) = before (byte_of (hex_digit h) (hex_digit l)) (hex_pairs ds)
+abbrev pub comparison_text : Comparison → List ℕ
+comparison_text c = order_text c.answer ++ (codes " shared " ++ (decimal c.share ++ (codes " pairs " ++ decimal c.pairs)))
 
--- what is printed of a closing record, `closing COUNT next P`; of an entry's, nothing is said here
-abbrev pub ClosingText : Record → ℕ → List ℕ → Type 0
-ClosingText (Entry numbers size symbols) next s = Unit {0}
-ClosingText (Closing count) next s = s ≡ codes "closing " ++ (decimal count ++ (codes " next " ++ decimal next))
+abbrev pub brought_text : ℕ → ℕ → List ℕ
+brought_text strip work = codes "bring " ++ (decimal strip ++ (codes " " ++ decimal work))
+
+abbrev pub opened_text : ℕ → ℕ → List ℕ
+opened_text capacity ceiling = codes "open capacity " ++ (decimal capacity ++ (codes " ceiling " ++ decimal ceiling))
+
+abbrev pub answer_text : Answer → List ℕ
+answer_text (Opened capacity ceiling) = opened_text capacity ceiling
+answer_text (Brought strip work) = brought_text strip work
+answer_text (Compared c) = comparison_text c
+answer_text (Entry numbers symbols next) = entry_text numbers (string_bytes symbols) next
+answer_text (Closing count next) = closing_text count next
+answer_text (Refused refusal) = told_text (told refusal)
+
+abbrev pub error_text : LineError → List ℕ
+error_text BadCommand = codes "bad command"
+error_text NoDictionary = codes "no dictionary"
+error_text OutOfMemory = codes "out of memory"

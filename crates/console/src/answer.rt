@@ -1,22 +1,58 @@
-ghost use Rattle.std.specs.Prelude.{◌≡◌, ◌++◌, IfOk, string_bytes, codes, decimal};
-ghost use Rattle.console.specs.Texts.{ClosingText, order_text};
+ghost use Rattle.std.specs.Prelude.{◌≡◌, IfOk, Some};
+ghost use Rattle.records.specs.Answers.{content_of};
+ghost use Rattle.console.specs.Texts.{answer_text, order_text, record_text};
 
-use crate::text::hex;
-use records::record::Record;
+use limits::refusal::Refusal;
+use records::record::{Numbers, Record};
+use script::text::hex;
 use std::alloc::{AllocError, Global};
 use std::cmp::Ordering;
+use std::fmt;
 use words::comparison::Comparison;
 
-pub fn opened(heap: Global, capacity: usize, ceiling: usize) -> Result<String, AllocError>
-    ensures { IfOk result (λ s. string_bytes s ≡ codes "open capacity " ++ (decimal capacity ++ (codes " ceiling " ++ decimal ceiling))) }
-{
-    format!(in heap; "open capacity {capacity} ceiling {ceiling}")
+// What a command comes to, as the console prints it.
+#[derive(Debug, Drop)]
+pub enum Answer {
+    Opened {
+        capacity: usize,
+        ceiling: usize,
+    },
+    Brought {
+        strip: usize,
+        work: usize,
+    },
+    Compared(Comparison),
+    Entry {
+        numbers: Numbers,
+        // the bytes of its symbols in hexadecimal
+        symbols: String,
+        next: usize,
+    },
+    Closing {
+        count: u16,
+        next: usize,
+    },
+    Refused(Refusal),
 }
 
-pub fn brought(heap: Global, strip: usize, work: usize) -> Result<String, AllocError>
-    ensures { IfOk result (λ s. string_bytes s ≡ codes "bring " ++ (decimal strip ++ (codes " " ++ decimal work))) }
-{
-    format!(in heap; "bring {strip} {work}")
+impl Answer {
+    // A record of a sheet, and the place after it.
+    pub fn recorded(heap: Global, found: Record, next: usize) -> Result<Answer, AllocError>
+        ensures { IfOk result (λ a. answer_text a ≡ record_text (content_of found.entry) next) }
+    {
+        match found {
+            Record::Entry {
+                numbers,
+                symbols,
+                ..
+            } => Ok(Answer::Entry {
+                numbers,
+                symbols: hex(heap, symbols)?,
+                next,
+            }),
+            Record::Closing { count } => Ok(Answer::Closing { count, next }),
+        }
+    }
 }
 
 fn order_name(order: Ordering) -> &'static str
@@ -29,32 +65,31 @@ fn order_name(order: Ordering) -> &'static str
     }
 }
 
-pub fn compared(heap: Global, c: Comparison) -> Result<String, AllocError>
-    ensures { IfOk result (λ s. string_bytes s ≡ order_text c.answer ++ (codes " shared " ++ (decimal c.share ++ (codes " pairs " ++ decimal c.pairs)))) }
-{
-    let name = order_name(c.answer);
-    let share = c.share;
-    let pairs = c.pairs;
-    format!(in heap; "{name} shared {share} pairs {pairs}")
-}
+impl fmt::Display for Answer {
+    ghost output = { λ a. Some (answer_text a) };
 
-pub fn recorded(heap: Global, found: Record, next: usize) -> Result<String, AllocError>
-    ensures { IfOk result (λ s. ClosingText found.entry next (string_bytes s)) }
-{
-    match found {
-        Record::Entry {
-            numbers,
-            symbols,
-            ..
-        } => {
-            let child = numbers.children.code();
-            let weight = numbers.weight;
-            let tag = numbers.tag;
-            let left = numbers.left;
-            let right = numbers.right;
-            let symbols = hex(heap, symbols)?;
-            format!(in heap; "entry {child} {weight} {tag} {left} {right} {symbols} next {next}")
+    fn fmt<W: fmt::Write>(&self, f: &mut fmt::Formatter<W>) -> fmt::Result {
+        match self {
+            Answer::Opened { capacity, ceiling } => {
+                write!(f, "open capacity {capacity} ceiling {ceiling}")
+            }
+            Answer::Brought { strip, work } => write!(f, "bring {strip} {work}"),
+            Answer::Compared(c) => {
+                let order = order_name(c.answer);
+                write!(f, "{order} shared {} pairs {}", c.share, c.pairs)
+            }
+            Answer::Entry {
+                numbers,
+                symbols,
+                next,
+            } => {
+                write!(f, "entry {} ", numbers.children.code())?;
+                write!(f, "{} {} ", numbers.weight, numbers.tag)?;
+                write!(f, "{} {} ", numbers.left, numbers.right)?;
+                write!(f, "{symbols} next {next}")
+            }
+            Answer::Closing { count, next } => write!(f, "closing {count} next {next}"),
+            Answer::Refused(refusal) => write!(f, "{refusal}"),
         }
-        Record::Closing { count } => format!(in heap; "closing {count} next {next}"),
     }
 }

@@ -2,32 +2,31 @@
 #![tactic(auto)]
 
 mod answer;
-mod command;
+mod error;
 mod session;
-mod symbol;
-mod text;
 
-use session::{Session, run_line};
+use error::LineError;
+use session::run_line;
+use std::alloc::Global;
 use std::io;
 use std::io::Read;
-use text::line_end;
 
 fn main(rt: HostRuntime) -> io::Result<()> {
     let mut script = Vec::new(rt.alloc());
     rt.stdin().read_to_end(&mut script)?;
-    run(&rt, script.as_slice())
+    run(&rt, rt.alloc(), script.as_slice())
 }
 
-// Runs each line of the script in turn.
-fn run(rt: &HostRuntime, script: &[u8]) -> io::Result<()> {
+// Runs each line of the script in turn, and prints its answer or why it has none.
+fn run(rt: &impl Print, heap: Global, script: &[u8]) -> io::Result<()> {
     let mut session = None;
-    let mut at = 0;
-    while at < script.len() {
-        let end = line_end(script, at);
-        if let Some(answer) = run_line(rt.alloc(), &mut session, &script[at..end])? {
-            rt.println(answer)?;
+    for line in script.split(|b| *b == b'\n') {
+        match run_line(heap, &mut session, line) {
+            Ok(None) => {}
+            Ok(Some(answer)) => println!(rt; "{answer}")?,
+            Err(LineError::OutOfMemory) => return Err(io::ErrorKind::OutOfMemory.into()),
+            Err(error) => println!(rt; "{error}")?,
         }
-        at = end + 1;
     }
     Ok(())
 }

@@ -1,3 +1,4 @@
 mod Numerals
 mod Hex
+mod Cuts
 mod Words

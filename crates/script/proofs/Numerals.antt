@@ -1,5 +1,5 @@
 -- Numbers of digits alone.
-use Rattle.std.proofs.Common.{◌≡◌, ℕ, ◌^◌, ◌<◌, Bool, true, false, cond, ◌&&◌, ltb, List, [], ◌∷◌, length, get_or, Some, None, Ok, Err, Result, sym, refl, ap, ◌∙◌, arith}
+use Rattle.std.proofs.Common.{◌≡◌, ℕ, ◌^◌, ◌<◌, Bool, true, false, cond, ◌&&◌, ltb, List, length, get_or, Some, None, Ok, Err, Result, sym, refl, ap, ◌∙◌}
 use Rattle.std.specs.Result.{OkIff, result_ok}
 use Rattle.std.specs.Str.Parse.{digits_value, ParsesUnsigned}
 use Rattle.std.specs.Str.{all_ascii_digits}
@@ -29,12 +29,3 @@ converted bits text (Err e) h = at (test bits text) refl
 -- what `parse` reads of a text without a sign
 pub parsed : {E : Type 0} (bits : ℕ) (text : List ℕ) (r : Result ℕ E) → ParsesUnsigned bits 10 text r → (get_or text 0 0 ≡ 43 → ⊥) → result_ok r ≡ numeral bits text
 parsed bits text r h plain = converted bits text r (parse_plain own bits text r h plain)
-
--- a sign is no digit
-pub signed : (bits : ℕ) (text : List ℕ) → get_or text 0 0 ≡ 43 → None ≡ numeral bits text
-signed bits [] h = refl
-signed bits (x ∷ text) h = rw h refl
-
-pub empty : (bits : ℕ) (text : List ℕ) → length text ≡ 0 → None ≡ numeral bits text
-empty bits [] h = refl
-empty bits (x ∷ text) h = absurd (omega arith)

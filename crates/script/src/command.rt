@@ -1,20 +1,53 @@
-ghost use Rattle.std.specs.Prelude.{◌≡◌, ◌<◌, length, IfSome, IfOk};
+ghost use Rattle.std.specs.Prelude.{◌≡◌, ◌<◌, IfOk, Some, codes, length, map};
 ghost use Rattle.std.specs.List.{AllByRecursion};
-ghost use Rattle.script.specs.Commands.{Worded, kind_name};
+ghost use Rattle.std.specs.Result.{result_ok};
+ghost use Rattle.script.specs.Commands.{Worded, command_of, kind_of, words_of};
 ghost use Rattle.script.specs.Texts.{numeral};
 
 use crate::text::number;
 use std::alloc::{AllocError, Global};
+use std::error::Error;
+use std::fmt;
+use std::str::FromStr;
 
 // The kind of symbol that a dictionary is opened for.
-#[derive(Clone, Copy)]
+#[derive(Clone, Copy, Debug, PartialEq, Eq, Hash)]
 pub enum Kind {
     Letters,
     Pen,
 }
 
+// A name that no kind has.
+#[derive(Clone, Copy, Debug, PartialEq, Eq, Hash)]
+pub struct UnknownKind;
+
+impl fmt::Display for UnknownKind {
+    ghost output = { λ _. Some (codes "no kind of symbol has this name") };
+
+    fn fmt<W: fmt::Write>(&self, f: &mut fmt::Formatter<W>) -> fmt::Result {
+        f.write_str("no kind of symbol has this name")
+    }
+}
+
+impl Error for UnknownKind {}
+
+// The kind of a name in a script.
+impl FromStr for Kind {
+    type Err = UnknownKind;
+
+    ghost from_str_gives = { λ name r. result_ok r ≡ kind_of name };
+
+    fn from_str(name: &str) -> Result<Kind, UnknownKind> {
+        match name {
+            "letters" => Ok(Kind::Letters),
+            "pen" => Ok(Kind::Pen),
+            _ => Err(UnknownKind),
+        }
+    }
+}
+
 // A line of the script. Words of symbols are read later, by the kind of the open dictionary.
-#[derive(Clone, Copy)]
+#[derive(Clone, Copy, Debug, PartialEq, Eq)]
 pub enum Command<'a> {
     Open {
         kind: Kind,
@@ -48,28 +81,12 @@ pub enum Command<'a> {
 
 // The words of a line, apart by spaces and tabs. None is empty.
 pub fn split_words(heap: Global, line: &str) -> Result<Vec<&str>, AllocError>
-    ensures { IfOk result (λ v. AllByRecursion (λ w. 0 < length w.now) v.items) }
+    ensures words { IfOk result (λ v. map (λ w. w.now) v.items ≡ words_of line.now) }
+    ensures some { IfOk result (λ v. AllByRecursion (λ w. 0 < length w.now) v.items) }
 {
-    let mut words = Vec::new(heap);
-    for word in line.split([' ', '\t']) {
-        if !word.is_empty() {
-            words.push(word)?;
-        }
-    }
-    Ok(words)
-}
-
-impl Kind {
-    // The kind of a name in a script.
-    fn new(name: &str) -> Option<Kind>
-        ensures { IfSome result (λ k. name.now ≡ kind_name k) }
-    {
-        match name {
-            "letters" => Some(Kind::Letters),
-            "pen" => Some(Kind::Pen),
-            _ => None,
-        }
-    }
+    line.split([' ', '\t'])
+        .filter(|word| !word.is_empty())
+        .collect(heap)
 }
 
 // A length or a place in memory.
@@ -80,97 +97,42 @@ fn size(word: &str) -> Option<usize>
 }
 
 // A weight or a tag.
-fn value(word: &str) -> Option<u32> {
+fn value(word: &str) -> Option<u32>
+    ensures { result ≡ numeral 32 word.now }
+{
     u32::try_from(number(word)?).ok()
 }
 
-// A command without arguments.
-fn alone<'a>(name: &str) -> Option<Command<'a>>
-    ensures { Worded 1 result }
-{
-    match name {
-        "list" => Some(Command::List),
-        "tally" => Some(Command::Tally),
-        _ => None,
-    }
-}
-
-// A command with one argument.
-fn of_one<'a>(name: &str, word: &'a str) -> Option<Command<'a>>
-    ensures { Worded 2 result }
-{
-    match name {
-        "find" => Some(Command::Find { word }),
-        _ => None,
-    }
-}
-
-// A command with two arguments.
-fn of_two<'a>(name: &str, first: &'a str, second: &'a str) -> Option<Command<'a>>
-    ensures { Worded 3 result }
-{
-    match name {
-        "bring" => Some(Command::Bring {
-            strip: size(first)?,
-            work: size(second)?,
-        }),
-        "compare" => Some(Command::Compare { first, second }),
-        "record" => Some(Command::Record {
-            hex: first,
-            place: size(second)?,
-        }),
-        _ => None,
-    }
-}
-
-// A command with three arguments.
-fn of_three<'a>(name: &str, word: &'a str, weight: &str, tag: &str) -> Option<Command<'a>>
-    ensures { Worded 4 result }
-{
-    match name {
-        "add" => Some(Command::Add {
-            word,
-            weight: value(weight)?,
-            tag: value(tag)?,
-        }),
-        _ => None,
-    }
-}
-
-// A command with four arguments.
-fn of_four<'a>(
-    name: &str,
-    kind: &str,
-    table: &str,
-    strip: &str,
-    ceiling: &str,
-) -> Option<Command<'a>>
-    ensures { Worded 5 result }
-{
-    match name {
-        "open" => Some(Command::Open {
-            kind: Kind::new(kind)?,
-            table: size(table)?,
-            strip: size(strip)?,
-            ceiling: size(ceiling)?,
-        }),
-        _ => None,
-    }
-}
-
 impl<'a> Command<'a> {
-    // The command of a line's words, or none where it cannot be read.
+    // The command of a line's words, or none where it cannot be read. An Option says all that TryFrom's error would.
     pub fn new(words: &[&'a str]) -> Option<Command<'a>>
-        ensures { Worded (length words.now) result }
+        ensures command { result ≡ command_of words.now }
+        ensures worded { Worded (length words.now) result }
     {
         match words {
-            [name] => return alone(name),
-            [name, word] => return of_one(name, word),
-            [name, first, second] => return of_two(name, first, second),
-            [name, word, weight, tag] => return of_three(name, word, weight, tag),
-            [name, kind, table, strip, ceiling] => return of_four(
-                name, kind, table, strip, ceiling,
-            ),
+            ["open", kind, table, strip, ceiling] => Some(Command::Open {
+                kind: kind.parse().ok()?,
+                table: size(table)?,
+                strip: size(strip)?,
+                ceiling: size(ceiling)?,
+            }),
+            ["bring", strip, work] => Some(Command::Bring {
+                strip: size(strip)?,
+                work: size(work)?,
+            }),
+            ["compare", first, second] => Some(Command::Compare { first, second }),
+            ["add", word, weight, tag] => Some(Command::Add {
+                word,
+                weight: value(weight)?,
+                tag: value(tag)?,
+            }),
+            ["find", word] => Some(Command::Find { word }),
+            ["record", hex, place] => Some(Command::Record {
+                hex,
+                place: size(place)?,
+            }),
+            ["list"] => Some(Command::List),
+            ["tally"] => Some(Command::Tally),
             _ => None,
         }
     }

@@ -2,5 +2,8 @@
 #![tactic(auto)]
 
 pub mod command;
+pub mod error;
 pub mod symbol;
+#[cfg(test)]
+mod tests;
 pub mod text;

@@ -1,7 +1,8 @@
-ghost use Rattle.std.specs.Prelude.{◌≡◌, ℕ, ◌+◌, ◌<◌, ◌≤◌, ◌⊎◌, length, IfSome, IfOk, vec_items, string_bytes, codes, ◌≢◌, slice_index};
-ghost use Rattle.script.specs.Texts.{byte_of, digit_of, hex_digit, hex_pairs, hex_text, numeral};
-ghost use Rattle.std.specs.Option.{option_map};
+ghost use Rattle.std.specs.Prelude.{◌≡◌, ℕ, ◌+◌, ◌<◌, ◌≤◌, length, IfSome, IfOk, vec_items, string_bytes, codes, ◌≢◌, slice_index};
+ghost use Rattle.script.specs.Texts.{byte_of, hex_bytes, hex_digit, hex_text, numeral};
+ghost use Rattle.script.specs.Reads.{Reads};
 
+use crate::error::ReadError;
 use std::alloc::{AllocError, Global};
 
 // Where the line that begins at a place ends: at the next line feed, or at the end of the script.
@@ -11,30 +12,27 @@ pub fn line_end(script: &[u8], from: usize) -> usize
     ensures line { (k : ℕ) → from ≤ k → k < result → slice_index script.now k ≢ 10 }
     ensures ended { result < length script.now → slice_index script.now result ≡ 10 }
 {
-    for at in from..script.len() {
-        if script[at] == b'\n' {
-            return at;
-        }
+    let Some(rest) = script.get(from..) else {
+        return script.len();
+    };
+    match rest.iter().position(|b| *b == b'\n') {
+        Some(at) => from + at,
+        None => script.len(),
     }
-    script.len()
 }
 
 // A number of digits alone, leading zeros allowed, that fits 64 bits.
 pub fn number(text: &str) -> Option<u64>
     ensures { result ≡ numeral 64 text.now }
 {
-    let digits = text.as_bytes();
-    if digits.is_empty() {
-        return None;
-    }
     // `parse` takes a sign, which no number here has.
-    if digits[0] == b'+' {
+    if text.starts_with('+') {
         return None;
     }
     text.parse::<u64>().ok()
 }
 
-// The value of a hexadecimal digit of either case.
+// The value of a hexadecimal digit of either case. The library's `to_digit`, of a char and into a u32, makes it no shorter.
 fn digit(c: u8) -> Option<u8>
     ensures { (result ≡ hex_digit c) × (IfSome result (λ d. d < 16)) }
 {
@@ -46,51 +44,31 @@ fn digit(c: u8) -> Option<u8>
     }
 }
 
+// The byte of two digits.
+fn byte(high: u8, low: u8) -> Option<u8>
+    ensures { result ≡ byte_of (hex_digit high) (hex_digit low) }
+{
+    Some(digit(high)? * 16 + digit(low)?)
+}
+
 // Bytes from pairs of hexadecimal digits, or from `-` for none.
-pub fn bytes(heap: Global, text: &str) -> Result<Option<Vec<u8>>, AllocError>
-    ensures { IfOk result (λ o. (text.now ≡ codes "-") ⊎ (option_map vec_items o ≡ hex_pairs text.now)) }
+pub fn bytes(heap: Global, text: &str) -> Result<Vec<u8>, ReadError>
+    ensures { Reads vec_items (hex_bytes text.now) result }
 {
+    let mut bytes = Vec::new(heap);
     if text == "-" {
-        return Ok(Some(Vec::new(heap)));
+        return Ok(bytes);
     }
-    pairs(heap, text.as_bytes())
-}
-
-// The byte of the two digits at a place.
-fn pair(digits: &[u8], at: usize) -> Option<u8>
-    requires { at + 2 ≤ length digits.now }
-    ensures { result ≡ byte_of (hex_digit (slice_index digits.now at)) (hex_digit (slice_index digits.now (at + 1))) }
-{
-    let high = digit(digits[at])?;
-    let low = digit(digits[at + 1])?;
-    Some(high * 16 + low)
-}
-
-// Bytes from pairs of hexadecimal digits.
-fn pairs(heap: Global, digits: &[u8]) -> Result<Option<Vec<u8>>, AllocError>
-    ensures { IfOk result (λ o. option_map vec_items o ≡ hex_pairs digits.now) }
-{
-    let mut out = Vec::new(heap);
-    let mut at = 0;
-    while at < digits.len() {
-        if digits.len() - at < 2 {
-            return Ok(None);
-        }
-        let Some(byte) = pair(digits, at) else {
-            return Ok(None);
+    for pair in text.as_bytes().chunks(2) {
+        let [high, low] = pair else {
+            return Err(ReadError::Unreadable);
         };
-        out.push(byte)?;
-        at += 2;
+        let Some(byte) = byte(*high, *low) else {
+            return Err(ReadError::Unreadable);
+        };
+        bytes.push(byte)?;
     }
-    Ok(Some(out))
-}
-
-// The lower-case hexadecimal digit of a number below 16.
-fn digit_char(n: u8) -> char
-    requires { n < 16 }
-    ensures { result ≡ digit_of n }
-{
-    char::from(if n < 10 { b'0' + n } else { b'a' - 10 + n })
+    Ok(bytes)
 }
 
 // Bytes as pairs of lower-case hexadecimal digits, and none as `-`.
@@ -102,8 +80,7 @@ pub fn hex(heap: Global, bytes: &[u8]) -> Result<String, AllocError>
     }
     let mut out = String::new(heap);
     for b in bytes {
-        out.push(digit_char(*b / 16))?;
-        out.push(digit_char(*b % 16))?;
+        write!(out, "{b:02x}")?;
     }
     Ok(out)
 }

@@ -1,13 +1,16 @@
-use Rattle.std.proofs.Common.{◌≡◌, ◌<◌, [], ◌∷◌, ◌++◌, length, vec_items, sym, refl, ◌∙◌, subst, arith}
-use Rattle.std.specs.List.{AllByRecursion}
-use Rattle.std.proofs.ByRecursion.{All-push}
-use Rattle.std.proofs.lemmas.Slice.{pushed}
-use Rattle.std.proofs.lemmas.Bool.{eqb-false}
+use Rattle.std.proofs.Common.{rules, ◌≡◌, ℕ, length, nat_lt, ap}
+use Rattle.std.specs.Char.{char_set_contains}
+use Rattle.std.proofs.lemmas.Iterator.Consumers.{YieldsList-at, YieldsList-from_filter, map_from_collect}
+use Rattle.script.specs.Commands.{is_blank}
+use Rattle.script.proofs.Cuts.{YieldsList-from_split_by, blank_ascii, words_filled}
 use Rattle.script.proofs.command.split_words.Goals as goal
 
-pub loop-word-preserved-in-Continue-1 : goal.loop-word-preserved-in-Continue-1
-loop-word-preserved-in-Continue-1 c =
-    let word = c.in-Some.word in
-    let some : (length word.now ≡ 0 → ⊥) = eqb-false (length word.now) 0 (sym c.is_empty.ensures ∙ c.if-not-is_empty.true) in
-    let p : vec_items c.push.new.self ≡ vec_items c.loop-word.words ++ (word ∷ []) = pushed (word ∷ []) refl c.in_ok-push.was c.push.ensures.items in
-    subst (AllByRecursion (λ w. 0 < length w.now)) (sym p) (All-push (λ w. 0 < length w.now) (vec_items c.loop-word.words) word c.loop-word.invariant (omega arith))
+pub returns-clause-words : goal.returns-clause-words
+returns-clause-words c = map_from_collect c.collect.result c.collect.ensures.ran
+    (YieldsList-from_filter _ (λ w. nat_lt 0 (length w))
+    (YieldsList-at c.filter.ensures.source
+    (YieldsList-from_split_by is_blank blank_ascii (λ l k. (d : ℕ) → char_set_contains l d ≡ k d) c.args.line.now c.split.ensures.text c.split.ensures.has_more (λ d. ap (λ l. char_set_contains l d) c.split.ensures.pattern)))
+    c.filter.ensures.closure (λ x b q k. search rules))
+
+pub returns-clause-some : goal.returns-clause-some
+returns-clause-some c = words_filled c.args.line.now (λ v. v.items) c.collect.result (returns-clause-words c)
