@@ -83,7 +83,7 @@ impl fmt::Display for Answer {
                 symbols,
                 next,
             } => {
-                write!(f, "entry {} ", numbers.children.code())?;
+                write!(f, "entry {} ", u8::from(numbers.children))?;
                 write!(f, "{} {} ", numbers.weight, numbers.tag)?;
                 write!(f, "{} {} ", numbers.left, numbers.right)?;
                 write!(f, "{symbols} next {next}")

@@ -23,6 +23,7 @@ pub struct Dictionary<'a, S> {
 impl<'a, S: Ordered> Dictionary<'a, S> {
     // An empty dictionary, whatever the memory held. It is never refused, and takes constant time.
     // A ceiling of 0 counts as 1, and one above 1,024 as 1,024.
+    // Table, strip and ceiling come apart, here and below: the caller brings each by itself, and no other call takes them.
     pub fn open(table: &'a mut [Slot], strip: &'a mut [S], ceiling: usize) -> Self
         ensures opened { Opened S.Ordered.order S.Ordered.symbol table.old strip.old ceiling result }
         ensures alike { SameTree S.Ordered.order S.Ordered.symbol }
@@ -46,7 +47,7 @@ impl<'a, S: Ordered> Dictionary<'a, S> {
         self.store.count()
     }
 
-    // Adds an entry and answers how many are then held.
+    // Adds an entry and answers how many are then held. Its parts come apart: the word is only lent, and no value of an entry is kept.
     // Refused, with all as it was: 1 without symbols, 2 above the ceiling, 3 where the word is held, 4 where the capacity is reached.
     pub fn add(&mut self, word: &[S], weight: u32, tag: u32) -> Result<usize, Refusal>
         ensures { Added S.Ordered.order S.Ordered.symbol (record { word = map S.Ordered.symbol word.entry.now; weight = weight; tag = tag }) self.old result self.new }

@@ -1,4 +1,5 @@
 //! The language of the console's scripts: numbers, bytes in hexadecimal, words of symbols, and commands.
+//! What allocates takes the allocator beside its text, as the library's own calls do.
 #![tactic(auto)]
 
 pub mod command;

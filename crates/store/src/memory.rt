@@ -45,7 +45,7 @@ impl<'a, S> Memory<'a, S> {
         }
     }
 
-    // The word of the entry at a place.
+    // The word of the entry at a place. That the place is in this memory is asked at each such call: no type of place knows of which memory it is.
     fn word(&self, place: u16) -> &[S]
         requires { InMemory self.now place }
         ensures { result.now ≡ stored_at self.now.table.now self.now.strip.now self.now.limits.ceiling place }

@@ -10,7 +10,7 @@ pub(crate) struct Hook {
     pub(crate) side: Side,
 }
 
-// Hangs a child on a hook.
+// Hangs a child on a hook. This and `note` write different fields, which no parameter names plainer.
 pub(crate) fn hang(table: &mut [Slot], hook: Hook, child: u16)
     requires { hook.place < length table.old }
     ensures { table.new ≡ hung table.old hook.place hook.side child }
