@@ -55,6 +55,7 @@ impl Answer {
     }
 }
 
+// `Ordering` is the library's, so no `Display` of ours can stand on it.
 fn order_name(order: Ordering) -> &'static str
     ensures { result.now ≡ order_text order }
 {

@@ -127,6 +127,7 @@ fn run_words(
     let Some(command) = command else {
         return Err(LineError::BadCommand);
     };
+    // The one place where a kind's name becomes a type.
     match open.kind {
         Kind::Letters => open.run::<Letter>(heap, command),
         Kind::Pen => open.run::<PenElement>(heap, command),

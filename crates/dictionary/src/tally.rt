@@ -75,7 +75,7 @@ pub struct TallyFull {
 }
 
 impl TallyFull {
-    // The number that the rules give this refusal.
+    // The number that the rules give this refusal, which is the only one of its type.
     pub fn number(&self) -> u8
         ensures { result ≡ (given_back self.now).number }
     {

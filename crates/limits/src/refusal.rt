@@ -56,7 +56,7 @@ pub enum Detail {
 }
 
 impl Refusal {
-    // The number that the rules give this refusal.
+    // The number that the rules give this refusal. The cases carry lengths and places, so no `as` gives it.
     pub fn number(&self) -> u8
         ensures { result ≡ (told self.now).number }
     {

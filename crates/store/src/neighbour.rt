@@ -14,6 +14,7 @@ use std::cmp::Ordering;
 use words::comparer::Counter;
 
 // Whether the walk to the nearest entry on a side of a word goes right, where the word stands so to the entry met.
+// A side and no closure: each closure would have its law said anew.
 fn turns_right(answer: Ordering, side: Side) -> bool
     ensures { result ≡ is_right_turn side answer }
 {
