@@ -18,6 +18,7 @@ use std::alloc::Global;
 use words::comparison::compare_words;
 
 // The open dictionary: its kind, its limits, and how much memory is brought to the calls that take some.
+// The kind is a value: as a type of the session it would stand for no field.
 #[derive(Clone, Copy, Debug)]
 pub struct Session {
     kind: Kind,
