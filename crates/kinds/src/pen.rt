@@ -170,7 +170,7 @@ impl Ordered for PenElement {
 
     ghost lawful = { number_order_lawful };
 
-    // By number: a derived order tests variant after variant, and takes about twice the time.
+    // By number, as the rules order them: a derive on the three types would order by their variants, with a lemma to tie these to the numbers.
     fn compare(&self, other: &PenElement) -> Ordering {
         u8::from(*self).cmp(&u8::from(*other))
     }

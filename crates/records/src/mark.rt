@@ -20,7 +20,7 @@ pub enum Children {
     Both,
 }
 
-// The children of a code, or none from 4 on.
+// The children of a code, or an error from 4 on.
 impl TryFrom<u8> for Children {
     type Error = NoMark;
 
@@ -53,7 +53,7 @@ pub enum Mark {
     Closing,
 }
 
-// The mark of two bytes, or none where no record has it.
+// The mark of two bytes, or an error where no record has it.
 impl TryFrom<[u8; 2]> for Mark {
     type Error = NoMark;
 

@@ -22,6 +22,7 @@ pub enum Head {
 }
 
 // A record of a sheet, with its symbol bytes as that very part of the sheet.
+// The word's length stands beside them, since a record does not know the width of its kind.
 #[derive(Clone, Copy, Debug, PartialEq, Eq)]
 pub enum Record<'a> {
     Entry {

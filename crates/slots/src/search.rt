@@ -10,7 +10,7 @@ use words::comparer::Comparer;
 use words::comparison::{Comparison, compare_from};
 
 // What a sought word shares with the nearest entries met before and after it, 0 without one.
-#[derive(Clone, Copy, Debug, PartialEq, Eq)]
+#[derive(Clone, Copy, Debug, Default, PartialEq, Eq)]
 pub struct Shares {
     pub before: usize,
     pub after: usize,
@@ -31,10 +31,7 @@ impl<'w, 'c, S: Ordered, C: Comparer<S>> Search<'w, 'c, S, C> {
     {
         Search {
             word,
-            shares: Shares {
-                before: 0,
-                after: 0,
-            },
+            shares: Shares::default(),
             comparer,
         }
     }
@@ -49,17 +46,11 @@ impl<'w, 'c, S: Ordered, C: Comparer<S>> Search<'w, 'c, S, C> {
         ensures same { SameSearch self.old self.new }
     {
         let Shares { before, after } = self.shares;
-        let is_before = after < before;
         let kept = before.max(after);
-        let stored = if is_before {
-            slot.left_length
+        let (stored, nearer) = if after < before {
+            (slot.left_length, Ordering::Less)
         } else {
-            slot.right_length
-        };
-        let nearer = if is_before {
-            Ordering::Less
-        } else {
-            Ordering::Greater
+            (slot.right_length, Ordering::Greater)
         };
         let share = usize::from(stored);
         match share.cmp(&kept) {

@@ -9,7 +9,8 @@ pub enum Side {
 }
 
 // What the entry table has at one place. A held entry's word stands at the same place of the word strip.
-#[derive(Clone, Copy, Debug)]
+// It is fixed memory of the caller's, so children are places in the table and no boxes.
+#[derive(Clone, Copy, Debug, Default)]
 pub struct Slot {
     // the places of the children, where a place from the capacity on means none
     pub left: u16,
@@ -32,15 +33,7 @@ impl Slot {
     pub fn blank() -> Slot
         ensures { result ≡ blank }
     {
-        Slot {
-            left: 0,
-            right: 0,
-            left_length: 0,
-            right_length: 0,
-            length: 0,
-            weight: 0,
-            tag: 0,
-        }
+        Slot::default()
     }
 
     // The slot of an entry that has no place in the tree yet.
@@ -50,11 +43,10 @@ impl Slot {
         Slot {
             left: NONE,
             right: NONE,
-            left_length: 0,
-            right_length: 0,
             length,
             weight,
             tag,
+            ..Slot::blank()
         }
     }
 }

@@ -26,7 +26,7 @@ pub struct Memory<'a, S> {
     // the word strip
     pub(crate) strip: &'a mut [S],
     pub(crate) limits: Limits,
-    // the place of the top entry, none where a slot would have none
+    // the place of the top entry; it is a number, none where a slot would have none, since a walk goes on from it by what slots say
     pub(crate) top: u16,
     // how many entries are held, which have the first places
     pub(crate) count: u16,

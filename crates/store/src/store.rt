@@ -1,4 +1,4 @@
-ghost use Rattle.std.specs.Prelude.{◌≡◌, ◌+◌, ◌^◌, ◌<◌, ◌≤◌, map, length, is_some, Ok};
+ghost use Rattle.std.specs.Prelude.{◌≡◌, ℕ, suc, ◌<◌, map, length, is_some, Ok};
 ghost use Rattle.std.specs.Option.{option_map};
 ghost use Rattle.limits.specs.Refusals.{refusal_of, word_refusal};
 ghost use Rattle.rules.specs.Calls.{added};
@@ -89,7 +89,8 @@ impl<'a, S: Ordered> Store<'a, S> {
 
     // Adds an entry and answers how many are held. Refused, with all as it was: 1 without symbols, 2 above the ceiling, 3 where the word is held, 4 where the capacity is reached.
     pub fn add(&mut self, word: &[S], weight: u32, tag: u32) -> Result<usize, Refusal>
-        ensures { Follows S.Ordered.order S.Ordered.symbol (added S.Ordered.order (record { word = map S.Ordered.symbol word.entry.now; weight = weight; tag = tag })) self.old.memory result self.new.memory }
+        ensures added { Follows S.Ordered.order S.Ordered.symbol (added S.Ordered.order (record { word = map S.Ordered.symbol word.entry.now; weight = weight; tag = tag })) self.old.memory result self.new.memory }
+        ensures counted { (n : ℕ) → result ≡ Ok n → n ≡ suc (length (held S.Ordered.symbol self.old.memory)) }
     {
         let limits = self.memory.limits;
         limits.check_word(word.len())?;

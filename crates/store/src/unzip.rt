@@ -37,6 +37,7 @@ pub(crate) fn unzip<S: Ordered, C: Comparer<S>>(
         place,
         side: Side::Right,
     };
+    // Two branches: each grows its own part, and one for both would choose at every write which.
     while (at as usize) < limits.capacity() {
         let step = memory.compare(at, search);
         let share = step.share as u16;

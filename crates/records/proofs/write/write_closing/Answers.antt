@@ -3,11 +3,6 @@ use Rattle.records.specs.Records.{closing}
 use Rattle.records.proofs.Putting.{put, not_put, no_room, room_there}
 use Rattle.records.proofs.write.write_closing.Goals as goal
 
-pub returns-in_err-next : goal.returns-in_err-next
-returns-in_err-next c width =
-    let h = no_room (c.args.at + 4) (length c.args.sheet.now) c.in_err-next.ensures in
-    rw c.from_residual.ensures (not_put width (closing c.args.count) c.args.at c.args.sheet.now h)
-
 pub returns : goal.returns
 returns c width =
     let h = room_there (c.args.at + 4) (length c.args.sheet.now) c.in_ok-next.next c.in_ok-next.ensures in

@@ -8,11 +8,6 @@ use Rattle.script.proofs.Hex.{after, after_none}
 use Rattle.script.proofs.Words.{word_is, one_read, none_read, all_read}
 use Rattle.script.proofs.symbol.word.Goals as goal
 
-pub loop-piece-init : goal.loop-piece-init
-loop-piece-init g c =
-    let all = all_in g.S.Symbol.of_piece (pieces_of c.args.text.now) in
-    sym (ap (λ ws. after (map g.S.Ordered.symbol ws) all) c.new-word.ensures.items ∙ after_none all)
-
 pub returns-in_default-of_piece-clause-symbols : goal.returns-in_default-of_piece-clause-symbols
 returns-in_default-of_piece-clause-symbols g c =
     let road = YieldsList-at c.into_iter-piece-iterator.ensures.into_iter_gives (YieldsList-from_str_split 46 c.args.text.now (lit< tt) c.split-piece-items.ensures.text c.split-piece-items.ensures.has_more c.split-piece-items.ensures.pattern) in

@@ -1,4 +1,4 @@
-use Rattle.std.proofs.Common.{◌≡◌, ℕ, false, List, map, length, None, sym, ap, ◌∙◌, subst, inl, inr, arith}
+use Rattle.std.proofs.Common.{◌≡◌, ℕ, false, List, map, length, sym, ap, ◌∙◌, subst, inl, inr, arith}
 use Rattle.std.specs.Borrow.{Bor}
 use Rattle.std.proofs.lemmas.List.{length-map}
 use Rattle.words.specs.declared.comparison.Comparison.{Comparison}
@@ -10,28 +10,14 @@ use Rattle.slots.specs.declared.slot.Side.TheVariants.{Left, Right}
 use Rattle.slots.specs.Searches.{passed}
 use Rattle.store.specs.declared.writes.Hook.{Hook}
 use Rattle.store.specs.Lookups.{compared_at}
-use Rattle.store.specs.Stores.{entry_of, places}
+use Rattle.store.specs.Stores.{entry_of}
 use Rattle.store.specs.Tables.{rooted}
-use Rattle.store.specs.Unzips.{Grown, HookIn, Unzipped, inserted_at, noted}
+use Rattle.store.specs.Unzips.{Unzipped, noted}
 use Rattle.store.proofs.Searching.{for_word}
-use Rattle.store.proofs.Growing.{begin, in_memory, free_here, goes_right, goes_left, ends, hook_in, Descending, Down}
+use Rattle.store.proofs.Growing.{in_memory, free_here, goes_right, goes_left, ends, Down}
 use Rattle.store.proofs.attach.attach.Given as given
 use Rattle.store.proofs.attach.attach.Goals as goal
 use Rattle.store.proofs.attach.attach.Goals.{then-is_gt, else-is_gt, else-loop-at-test, then-loop-at-test+then-not-stays_above}
-
-pub loop-at-init : goal.loop-at-init
-loop-at-init g c =
-    let m = c.args.memory.now in
-    let entry = entry_of g.S.Ordered.symbol m in (
-      subst (Descending g.S.Ordered.order entry m.limits.ceiling m.limits.capacity c.args.place (Grown m.limits.capacity m.table.now c.args.place (places m) (inserted_at g.S.Ordered.order entry c.args.place 0 0 (places m))) m.top m.table.now None m.top)
-          (sym c.new-search.ensures.nothing_met)
-          (begin g.S.Ordered.order entry (length m.strip.now) m.limits.ceiling m.limits.capacity c.args.place m.top m.table.now c.requires.free),
-      omega arith,
-      record { word = λ i. c.new-search.result.word; comparer = λ i. c.new-search.result.comparer.ghost_name },
-    )
-
-pub overflow_cast-at : goal.overflow_cast-at
-overflow_cast-at g c = omega arith
 
 pub compare-step-requires : goal.compare-step-requires
 compare-step-requires g c =
@@ -90,26 +76,6 @@ unzip-requires g c =
       after = omega (arith, l, w, n, d.after, ap (λ (z : Shares). z.after) k);
       short = omega (arith, n, c.requires.short);
     }
-
-pub overflow_cast-before : goal.overflow_cast-before
-overflow_cast-before g c =
-    let k : c.loop-at-test.search.shares ≡ c.loop-at.search.shares =
-    elim c.loop-at-test.branch [ else-loop-at-test w ↦ ap shares_of w.search-is | then-loop-at-test+then-not-stays_above w ↦ ap shares_of w.search-is ∙ w.compare-step.ensures.shares ] in
-    let l = length-map c.args.word.now g.S.Ordered.symbol in
-    let w = ap length c.requires.word in
-    omega (arith, l, w, c.loop-at.invariant.0.before, ap (λ (z : Shares). z.before) k, c.requires.short)
-
-pub overflow_cast-after : goal.overflow_cast-after
-overflow_cast-after g c =
-    let k : c.loop-at-test.search.shares ≡ c.loop-at.search.shares =
-    elim c.loop-at-test.branch [ else-loop-at-test w ↦ ap shares_of w.search-is | then-loop-at-test+then-not-stays_above w ↦ ap shares_of w.search-is ∙ w.compare-step.ensures.shares ] in
-    let l = length-map c.args.word.now g.S.Ordered.symbol in
-    let w = ap length c.requires.word in
-    omega (arith, l, w, c.loop-at.invariant.0.after, ap (λ (z : Shares). z.after) k, c.requires.short)
-
-pub seat-memory-requires : goal.seat-memory-requires
-seat-memory-requires g c =
-    subst (λ (n : ℕ). HookIn n c.loop-at.above) (sym (c.note-2.auto.table ∙ c.note.auto.table ∙ c.unzip.ensures.table.same.size)) (hook_in c.loop-at.invariant.0)
 
 pub returns : goal.returns
 returns g c =

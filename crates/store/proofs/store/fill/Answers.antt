@@ -1,12 +1,7 @@
-use Rattle.std.proofs.Common.{ℕ, ◌+◌, ◌*◌, ◌≤◌, length, sym, ap, ◌∙◌, subst, arith}
+use Rattle.std.proofs.Common.{ℕ, ◌+◌, ◌*◌, ap, ◌∙◌, arith}
 use Rattle.store.specs.Tables.{overwritten}
-use Rattle.store.proofs.Adding.{word_room, attach_free, attach_word, filled_by}
+use Rattle.store.proofs.Adding.{attach_free, attach_word, filled_by}
 use Rattle.store.proofs.store.fill.Goals as goal
-
-pub put_word-requires : goal.put_word-requires
-put_word-requires g c =
-    subst (λ (n : ℕ). c.args.memory.now.count * n + length c.args.word.now ≤ length c.args.memory.now.strip.now) (sym c.ceiling-ceiling.ensures)
-    (word_room c.args.memory.now c.args.word.now c.requires)
 
 pub attach-requires : goal.attach-requires
 attach-requires g c =

@@ -1,4 +1,4 @@
-use Rattle.std.proofs.Common.{◌+◌, ◌*◌, ◌≤◌, List, map, length, sym, refl, ap, ◌∙◌, subst, arith}
+use Rattle.std.proofs.Common.{◌+◌, ◌*◌, ◌≤◌, List, map, length, sym, ap, ◌∙◌, subst, arith}
 use Rattle.std.proofs.lemmas.List.{length-map}
 use Rattle.limits.specs.declared.bounds.Limits.{Limits}
 use Rattle.slots.specs.declared.slot.Slot.{Slot}
@@ -8,22 +8,8 @@ use Rattle.store.specs.Stores.{entry_of}
 use Rattle.store.specs.Tables.{rooted, slot_at}
 use Rattle.store.specs.Unzips.{hung, Unzipped}
 use Rattle.store.proofs.Searching.{for_word}
-use Rattle.store.proofs.Parting.{begin, in_memory, hook_in, hook_in', share_fits, goes_after, goes_before, at_end, step_in}
+use Rattle.store.proofs.Parting.{in_memory, share_fits, goes_after, goes_before, at_end, step_in}
 use Rattle.store.proofs.unzip.unzip.Goals as goal
-
-pub loop-at-init : goal.loop-at-init
-loop-at-init g c =
-    let l = length-map c.args.search.now.word.now g.S.Ordered.symbol in
-    let m = c.args.memory.now in (
-      begin g.S.Ordered.order g.S.Ordered.symbol m.strip.now m.limits.ceiling m.limits.capacity (map g.S.Ordered.symbol c.args.search.now.word.now) m.table.now c.args.top c.args.place c.args.search.now.shares
-          (length m.strip.now) (rooted m.table.now m.limits.capacity c.args.top) c.requires.free (omega arith) (omega arith),
-      omega arith,
-      record { strip = refl; limits = refl; top = refl; count = refl },
-      record { word = refl; comparer = refl },
-    )
-
-pub overflow_cast-at : goal.overflow_cast-at
-overflow_cast-at g c = omega arith
 
 pub compare-step-requires : goal.compare-step-requires
 compare-step-requires g c =
@@ -34,9 +20,6 @@ compare-step-requires g c =
       word = subst (λ (k : Limits). c.loop-at.at * k.ceiling + (slot_at c.loop-at.memory.table.now c.loop-at.at).length ≤ length c.loop-at.memory.strip.now) (sym A.limits)
           (subst (λ (s : List g.row.S.Denot). c.loop-at.at * c.args.memory.now.limits.ceiling + (slot_at c.loop-at.memory.table.now c.loop-at.at).length ≤ length s) (sym A.strip) m.1);
     }
-
-pub hang-requires : goal.hang-requires
-hang-requires g c = hook_in c.loop-at.invariant.0
 
 pub overflow_cast-share : goal.overflow_cast-share
 overflow_cast-share g c =
@@ -55,9 +38,6 @@ loop-at-preserved-then-is_gt g c = (
   (let a = c.loop-at.invariant.3 in record { word = c.pass.ensures.same.word ∙ c.compare-step.ensures.same.word ∙ a.word; comparer = c.pass.ensures.same.comparer ∙ c.compare-step.ensures.same.comparer ∙ a.comparer }),
 )
 
-pub hang-requires-else-is_gt : goal.hang-requires-else-is_gt
-hang-requires-else-is_gt g c = hook_in' c.loop-at.invariant.0
-
 pub loop-at-smaller : goal.loop-at-smaller
 loop-at-smaller g c = (goes_before c.loop-at.invariant.0 (omega arith) c.compare-step.result (for_word g.S.Ordered.order g.S.Ordered.symbol c.loop-at.memory c.loop-at.at c.loop-at.search.shares c.compare-step.ensures.value c.loop-at.invariant.3.word ∙ step_in g.S.Ordered.order g.S.Ordered.symbol (map g.S.Ordered.symbol c.args.search.now.word.now) c.args.memory.now c.loop-at.memory c.loop-at.at c.loop-at.search.shares c.loop-at.invariant.2) (sym c.is_gt.ensures ∙ c.if-is_gt.false) c.hang-else-is_gt.new.table c.note-else-is_gt.new.table c.hang-else-is_gt.ensures c.note-else-is_gt.ensures c.child-next-else-is_gt.result c.child-next-else-is_gt.ensures c.pass-else-is_gt.new.self.shares (c.pass-else-is_gt.ensures.shares ∙ ap (passed Left c.compare-step.result.share) c.compare-step.ensures.shares)).1
 
@@ -68,12 +48,6 @@ loop-at-preserved g c = (
   (let a = c.loop-at.invariant.2 in record { strip = a.strip; limits = a.limits; top = a.top; count = a.count }),
   (let a = c.loop-at.invariant.3 in record { word = c.pass-else-is_gt.ensures.same.word ∙ c.compare-step.ensures.same.word ∙ a.word; comparer = c.pass-else-is_gt.ensures.same.comparer ∙ c.compare-step.ensures.same.comparer ∙ a.comparer }),
 )
-
-pub hang-requires-2 : goal.hang-requires-2
-hang-requires-2 g c = hook_in c.loop-at.invariant.0
-
-pub hang-requires-3 : goal.hang-requires-3
-hang-requires-3 g c = let h = hook_in' c.loop-at.invariant.0 in omega arith
 
 pub returns : goal.returns
 returns g c =

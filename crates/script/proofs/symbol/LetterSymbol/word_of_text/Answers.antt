@@ -6,12 +6,6 @@ use Rattle.std.proofs.lemmas.Iterator.{YieldsList-from_chars}
 use Rattle.std.proofs.lemmas.Iterator.Consumers.{YieldsList-at, YieldsList-end}
 use Rattle.script.proofs.symbol.LetterSymbol.word_of_text.Goals as goal
 
-pub loop-c-preserved : goal.loop-c-preserved
-loop-c-preserved c =
-    let code : code_point c.in-Ok.letter ≡ c.in-Some.c = search rules in
-    ap (map code_point) (pushed (c.in-Ok.letter ∷ []) refl c.in_ok-push.was c.push.ensures.items) ∙ map-append code_point (vec_items c.loop-c.word) (c.in-Ok.letter ∷ [])
-    ∙ (λ i. c.loop-c.invariant i ++ (code i ∷ []))
-
 pub returns : goal.returns
 returns c =
     let (seen, _) = YieldsList-end (YieldsList-at c.into_iter-c-iterator.ensures.into_iter_gives (YieldsList-from_chars c.args.text.now c.utf8.text c.chars-c-items.ensures.rest)) c.loop-c.yielded _ c.loop-c.yielded_by _ _ c.in-None.is c.next.ensures.steps in
