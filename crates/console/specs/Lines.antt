@@ -80,7 +80,7 @@ RunsWords old line r new = (words : List (Bor (List ℕ))) × (map (λ w. w.now)
 
 -- what becomes of a line: it is passed over only where it is empty, begins with `#` or has no words, and it may be no text
 abbrev pub RunsText : Option Session → List ℕ → Result (Option Answer) LineError → Option Session → Type 0
-RunsText old line (Ok None) new = (slice_index_or line 0 35 ≡ 35) ⊎ (words_of line ≡ [])
+RunsText old line (Ok None) new = ((slice_index_or line 0 35 ≡ 35) ⊎ (words_of line ≡ [])) × (new ≡ old)
 RunsText old line (Ok (Some answer)) new = RunsWords old line (Ok answer) new
 RunsText old line (Err OutOfMemory) new = Unit {0}
 RunsText old line (Err e) new = ((¬ (IsUtf8 line)) × (e ≡ cond (is_some old) BadCommand NoDictionary)) ⊎ RunsWords old line (Err e) new

@@ -84,10 +84,18 @@ impl fmt::Display for Answer {
                 symbols,
                 next,
             } => {
-                write!(f, "entry {} ", u8::from(numbers.children))?;
-                write!(f, "{} {} ", numbers.weight, numbers.tag)?;
-                write!(f, "{} {} ", numbers.left, numbers.right)?;
-                write!(f, "{symbols} next {next}")
+                let Numbers {
+                    children,
+                    weight,
+                    tag,
+                    left,
+                    right,
+                } = *numbers;
+                let child = u8::from(children);
+                write!(
+                    f,
+                    "entry {child} {weight} {tag} {left} {right} {symbols} next {next}"
+                )
             }
             Answer::Closing { count, next } => write!(f, "closing {count} next {next}"),
             Answer::Refused(refusal) => write!(f, "{refusal}"),

@@ -4,6 +4,8 @@
 mod answer;
 mod error;
 mod session;
+#[cfg(test)]
+mod tests;
 
 use error::LineError;
 use session::run_line;

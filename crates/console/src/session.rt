@@ -147,7 +147,7 @@ pub fn run_line(
     ensures err { OnErr result (session.new ≡ session.old) }
     ensures open { IfOk result (λ answer. IsSome answer → IsSome session.new) }
 {
-    if line.is_empty() || line[0] == b'#' {
+    if let [] | [b'#', ..] = line {
         return Ok(None);
     }
     let Ok(text) = std::str::from_utf8(line) else {

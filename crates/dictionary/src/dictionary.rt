@@ -15,6 +15,7 @@ use store::store::Store;
 use words::comparer::{Comparer, Counter};
 
 // A dictionary over an entry table and a word strip that are lent to it. It is had only from `open`.
+// What depends on the order of symbols (`Kept`) is a premise of the promises and no invariant: that would tie the type, and each definition that speaks of it, to the order of a kind.
 #[derive(Drop)]
 pub struct Dictionary<'a, S> {
     store: Store<'a, S>,
@@ -62,7 +63,7 @@ impl<'a, S: Ordered> Dictionary<'a, S> {
         self.lookup_by(word, &mut Counter::new())
     }
 
-    // The same by asking a comparer of the caller's. Lent at 0, it stands at the pairs on the slip afterwards.
+    // The same by asking a comparer of the caller's, who owns the word and the comparer apart. Lent at 0, it stands at the pairs on the slip afterwards.
     pub fn lookup_by<C: Comparer<S>>(
         &self,
         word: &[S],

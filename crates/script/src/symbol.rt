@@ -25,7 +25,7 @@ pub trait Symbol: Written + Display {
     // the numbers of the symbols that are a text's characters, where the kind has such words
     ghost of_text: { List ℕ → Option (List ℕ) };
 
-    // The symbol that one piece of a word writes, or none. FromStr could stand only with the kinds, which know no script.
+    // The symbol that one piece of a word writes, or none. A FromStr could stand only with the kinds, and would need a script's numerals there.
     fn of_piece(text: &str) -> Option<Self>
         ensures { option_map Self.Ordered.symbol result ≡ of_piece text.now };
 

@@ -5,6 +5,7 @@ ghost use Rattle.script.specs.Reads.{Reads};
 use crate::error::ReadError;
 use std::alloc::{AllocError, Global};
 
+// For a caller that holds a script and a place in it; the console takes its lines one after another.
 // Where the line that begins at a place ends: at the next line feed, or at the end of the script.
 pub fn line_end(script: &[u8], from: usize) -> usize
     ensures within { result ≤ length script.now }

@@ -1,16 +1,10 @@
 -- A part of a list overwritten: what is read before it is as it was, and it reads as what was written.
 use Rattle.std.proofs.Common.{◌≡◌, ℕ, ◌+◌, ◌-◌, ◌≤◌, List, ◌++◌, length, take, drop, ap, ◌∙◌, arith, length-drop, length-take-le, take-take, drop_at}
-use borrow.Rule.Slice.PartMut.{put_mid, Post-is}
 use lib.Seq.{take-append-le, drop-append-le, take-append_seam}
 use Rattle.std.proofs.lemmas.List.{drop-take, length-append}
 use Rattle.store.specs.Tables.{overwritten}
 
 module _ {A : Type 0} where
-  pub put_is : (start : ℕ) (part whole out : List A) → out ≡ part → put_mid start (start + length part - start) whole out ≡ overwritten start part whole
-  put_is start part whole out e =
-      ap (λ (z : List A). take start whole ++ (out ++ z)) (Post-is start (start + length part) whole (omega arith))
-      ∙ ap (λ (z : List A). take start whole ++ (z ++ drop (start + length part) whole)) e
-
   pub length_overwritten : (start : ℕ) (part whole : List A) → start + length part ≤ length whole → length (overwritten start part whole) ≡ length whole
   length_overwritten start part whole h =
       let a = length-append (take start whole) (part ++ drop (start + length part) whole) in

@@ -120,7 +120,7 @@ impl<'a, S: Ordered> Store<'a, S> {
     }
 }
 
-// Writes an entry to the first free place and puts that place into the tree.
+// Writes an entry, of which it has the parts as `add` was given them, to the first free place and puts that place into the tree.
 fn fill<S: Ordered>(memory: &mut Memory<S>, word: &[S], weight: u32, tag: u32)
     requires { HasRoom word.now memory.old }
     ensures { FilledBy S.Ordered.symbol S.Ordered.order (record { word = map S.Ordered.symbol word.entry.now; weight = weight; tag = tag }) memory.old memory.new }

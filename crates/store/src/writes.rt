@@ -11,6 +11,7 @@ pub(crate) struct Hook {
 }
 
 // Hangs a child on a hook. This and `note` write different fields, which no parameter names plainer.
+// Each asks for a place of this table, as `child` does: no type of place knows of which table it is.
 pub(crate) fn hang(table: &mut [Slot], hook: Hook, child: u16)
     requires { hook.place < length table.old }
     ensures { table.new ≡ hung table.old hook.place hook.side child }

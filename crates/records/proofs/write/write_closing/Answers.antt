@@ -1,6 +1,6 @@
 use Rattle.std.proofs.Common.{◌+◌, length, refl, arith}
 use Rattle.records.specs.Records.{closing}
-use Rattle.records.proofs.Putting.{put, not_put, no_room, room_there}
+use Rattle.records.proofs.Putting.{put, room_there}
 use Rattle.records.proofs.write.write_closing.Goals as goal
 
 pub returns : goal.returns

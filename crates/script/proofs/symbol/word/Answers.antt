@@ -4,7 +4,7 @@ use Rattle.std.proofs.lemmas.Slice.{pushed}
 use Rattle.std.proofs.lemmas.Iterator.Consumers.{YieldsList-at, YieldsList-turn, YieldsList-end}
 use Rattle.std.proofs.lemmas.Iterator.Splits.{YieldsList-from_str_split}
 use Rattle.script.specs.Texts.{all_in, pieces_of}
-use Rattle.script.proofs.Hex.{after, after_none}
+use Rattle.script.proofs.Hex.{after}
 use Rattle.script.proofs.Words.{word_is, one_read, none_read, all_read}
 use Rattle.script.proofs.symbol.word.Goals as goal
 

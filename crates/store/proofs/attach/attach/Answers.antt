@@ -1,6 +1,5 @@
 use Rattle.std.proofs.Common.{◌≡◌, ℕ, false, List, map, length, sym, ap, ◌∙◌, subst, inl, inr, arith}
 use Rattle.std.specs.Borrow.{Bor}
-use Rattle.std.proofs.lemmas.List.{length-map}
 use Rattle.words.specs.declared.comparison.Comparison.{Comparison}
 use Rattle.rules.specs.Inserts.{is_above}
 use Rattle.slots.specs.declared.search.Search.{Search}
@@ -59,26 +58,11 @@ shares_of s = s.shares
 abbrev word_of : {S C : Type 0} → Search S C → Bor (List S)
 word_of s = s.word
 
-pub unzip-requires : goal.unzip-requires
-unzip-requires g c =
-    let d = c.loop-at.invariant.0 in
-    let k : c.loop-at-test.search.shares ≡ c.loop-at.search.shares =
-    elim c.loop-at-test.branch [ else-loop-at-test w ↦ ap shares_of w.search-is | then-loop-at-test+then-not-stays_above w ↦ ap shares_of w.search-is ∙ w.compare-step.ensures.shares ] in
-    let v : c.loop-at-test.search.word ≡ c.args.word =
-    elim c.loop-at-test.branch [ else-loop-at-test w ↦ ap word_of w.search-is | then-loop-at-test+then-not-stays_above w ↦ ap word_of w.search-is ∙ w.compare-step.ensures.same.word ]
-    ∙ c.loop-at.invariant.2.word ∙ c.new-search.ensures.word_is in
-    let n = ap (λ (z : Bor (List g.row.S.Denot)). length z.now) v in
-    let l = length-map c.args.word.now g.S.Ordered.symbol in
-    let w = ap length c.requires.word in
-    record {
-      free = free_here d (length c.args.memory.now.strip.now) c.requires.free.few c.requires.free.strip c.requires.free.at;
-      before = omega (arith, l, w, n, d.before, ap (λ (z : Shares). z.before) k);
-      after = omega (arith, l, w, n, d.after, ap (λ (z : Shares). z.after) k);
-      short = omega (arith, n, c.requires.short);
-    }
+pub unzip-requires-clause-free : goal.unzip-requires-clause-free
+unzip-requires-clause-free g c = free_here c.loop-at.invariant.0 (length c.args.memory.now.strip.now) c.requires.free.few c.requires.free.strip c.requires.free.at
 
-pub returns : goal.returns
-returns g c =
+pub returns-clause-tree : goal.returns-clause-tree
+returns-clause-tree g c =
     let m = c.args.memory.now in
     let k : c.loop-at-test.search.shares ≡ c.loop-at.search.shares =
     elim c.loop-at-test.branch [ else-loop-at-test w ↦ ap shares_of w.search-is | then-loop-at-test+then-not-stays_above w ↦ ap shares_of w.search-is ∙ w.compare-step.ensures.shares ] in
@@ -89,20 +73,16 @@ returns g c =
     let u = subst (λ (j : Shares). Unzipped g.S.Ordered.order (entry_of g.S.Ordered.symbol m) m.limits.capacity (entry_of g.S.Ordered.symbol m c.args.place).word j.before j.after c.args.place (rooted m.table.now m.limits.capacity c.loop-at.at) m.table.now c.unzip.new.memory.table.now) k
     (subst (λ (w : List ℕ). Unzipped g.S.Ordered.order (entry_of g.S.Ordered.symbol m) m.limits.capacity w c.loop-at-test.search.shares.before c.loop-at-test.search.shares.after c.args.place (rooted m.table.now m.limits.capacity c.loop-at.at) m.table.now c.unzip.new.memory.table.now)
     (ap (λ (z : Bor (List g.row.S.Denot)). map g.S.Ordered.symbol z.now) v ∙ c.requires.word) c.unzip.ensures.table) in
-    record {
-      tree =
-          ends c.loop-at.invariant.0 c.unzip.new.memory.table.now c.note.new.table c.note-2.new.table c.requires.room
-          -- the loop ends where nothing is left, or at an entry that the new one outranks
-          (elim c.loop-at-test.branch [
-            | else-loop-at-test w ↦ inl (let e = w.loop-at-test.false in omega arith)
-            | then-loop-at-test+then-not-stays_above w ↦ inr (subst (λ (y : Comparison). is_above g.S.Ordered.order (entry_of g.S.Ordered.symbol m c.loop-at.at) (entry_of g.S.Ordered.symbol m c.args.place) y ≡ false)
-                (for_word g.S.Ordered.order g.S.Ordered.symbol m c.loop-at.at c.loop-at.search.shares w.compare-step.ensures.value (c.loop-at.invariant.2.word ∙ c.new-search.ensures.word_is)
-                ∙ ap (λ (w : List ℕ). compared_at g.S.Ordered.order w (entry_of g.S.Ordered.symbol m) m.table.now c.loop-at.at c.loop-at.search.shares) c.requires.word)
-                (sym w.stays_above.ensures ∙ w.if-not-stays_above.true))
-          ])
-          u
-          (c.note.ensures ∙ ap (λ (j : Shares). noted c.unzip.new.memory.table.now c.args.place Left j.before) k)
-          (c.note-2.ensures ∙ ap (λ (j : Shares). noted c.note.new.table c.args.place Right j.after) k)
-          c.seat-memory.result c.seat-memory.new.table c.seat-memory.ensures.top c.seat-memory.ensures.table;
-      rest = (let a = c.unzip.ensures.rest in record { strip = a.strip; limits = a.limits; count = a.count });
-    }
+    ends c.loop-at.invariant.0 c.unzip.new.memory.table.now c.note.new.table c.note-2.new.table c.requires.room
+    -- the loop ends where nothing is left, or at an entry that the new one outranks
+    (elim c.loop-at-test.branch [
+      | else-loop-at-test w ↦ inl (let e = w.loop-at-test.false in omega arith)
+      | then-loop-at-test+then-not-stays_above w ↦ inr (subst (λ (y : Comparison). is_above g.S.Ordered.order (entry_of g.S.Ordered.symbol m c.loop-at.at) (entry_of g.S.Ordered.symbol m c.args.place) y ≡ false)
+          (for_word g.S.Ordered.order g.S.Ordered.symbol m c.loop-at.at c.loop-at.search.shares w.compare-step.ensures.value (c.loop-at.invariant.2.word ∙ c.new-search.ensures.word_is)
+          ∙ ap (λ (w : List ℕ). compared_at g.S.Ordered.order w (entry_of g.S.Ordered.symbol m) m.table.now c.loop-at.at c.loop-at.search.shares) c.requires.word)
+          (sym w.stays_above.ensures ∙ w.if-not-stays_above.true))
+    ])
+    u
+    (c.note.ensures ∙ ap (λ (j : Shares). noted c.unzip.new.memory.table.now c.args.place Left j.before) k)
+    (c.note-2.ensures ∙ ap (λ (j : Shares). noted c.note.new.table c.args.place Right j.after) k)
+    c.seat-memory.result c.seat-memory.new.table c.seat-memory.ensures.top c.seat-memory.ensures.table

@@ -1,19 +1,14 @@
 use Rattle.std.proofs.Common.{ℕ, ◌+◌, ◌*◌, ap, ◌∙◌, arith}
 use Rattle.store.specs.Tables.{overwritten}
-use Rattle.store.proofs.Adding.{attach_free, attach_word, filled_by}
+use Rattle.store.proofs.Adding.{attach_free, filled_by}
 use Rattle.store.proofs.store.fill.Goals as goal
 
-pub attach-requires : goal.attach-requires
-attach-requires g c =
+pub attach-requires-clause-free : goal.attach-requires-clause-free
+attach-requires-clause-free g c =
     let m = c.args.memory.now in
     let w = c.args.word.now in
-    let e = c.put_word.ensures ∙ ap (λ (n : ℕ). overwritten (m.count * n) w m.strip.now) c.ceiling-ceiling.ensures in
-    record {
-      free = attach_free g.S.Ordered.order g.S.Ordered.symbol m w c.requires c.args.weight c.args.tag c.unlinked.result c.unlinked.ensures c.put_word.new.strip e;
-      room = c.requires.room;
-      short = (let s = c.requires.short in let k = c.requires.filled.sound.short in omega arith);
-      word = attach_word g.S.Ordered.order g.S.Ordered.symbol m w c.requires c.args.weight c.args.tag c.unlinked.result c.unlinked.ensures c.put_word.new.strip e;
-    }
+    attach_free g.S.Ordered.order g.S.Ordered.symbol m w c.requires c.args.weight c.args.tag c.unlinked.result c.unlinked.ensures c.put_word.new.strip
+    (c.put_word.ensures ∙ ap (λ (n : ℕ). overwritten (m.count * n) w m.strip.now) c.ceiling-ceiling.ensures)
 
 pub returns : goal.returns
 returns g c =

@@ -49,13 +49,9 @@ loop-at-preserved g c = (
   (let a = c.loop-at.invariant.3 in record { word = c.pass-else-is_gt.ensures.same.word ∙ c.compare-step.ensures.same.word ∙ a.word; comparer = c.pass-else-is_gt.ensures.same.comparer ∙ c.compare-step.ensures.same.comparer ∙ a.comparer }),
 )
 
-pub returns : goal.returns
-returns g c =
+pub returns-clause-table : goal.returns-clause-table
+returns-clause-table g c =
     let m = c.args.memory.now in
-    record {
-      table = subst (Unzipped g.S.Ordered.order (entry_of g.S.Ordered.symbol m) m.limits.capacity (map g.S.Ordered.symbol c.args.search.now.word.now) c.args.search.now.shares.before c.args.search.now.shares.after c.args.place (rooted m.table.now m.limits.capacity c.args.top) m.table.now)
-          (ap (λ (T : List Slot). hung T c.loop-at.high.place c.loop-at.high.side 65535) (sym c.hang-2.ensures) ∙ sym c.hang-3.ensures)
-          (at_end c.loop-at.invariant.0 (omega arith) 65535 (let f = c.requires.free.few in omega arith));
-      rest = (let a = c.loop-at.invariant.2 in record { strip = a.strip; limits = a.limits; top = a.top; count = a.count });
-      same = c.loop-at.invariant.3;
-    }
+    subst (Unzipped g.S.Ordered.order (entry_of g.S.Ordered.symbol m) m.limits.capacity (map g.S.Ordered.symbol c.args.search.now.word.now) c.args.search.now.shares.before c.args.search.now.shares.after c.args.place (rooted m.table.now m.limits.capacity c.args.top) m.table.now)
+    (ap (λ (T : List Slot). hung T c.loop-at.high.place c.loop-at.high.side 65535) (sym c.hang-2.ensures) ∙ sym c.hang-3.ensures)
+    (at_end c.loop-at.invariant.0 (omega arith) 65535 (let f = c.requires.free.few in omega arith))

@@ -1,5 +1,5 @@
 use Rattle.dictionary.proofs.Runs.{sums_up}
 use Rattle.dictionary.proofs.tally.OpenTally.new.Goals as goal
 
-pub returns : goal.returns
-returns c = record { value = c.new.ensures; runs = sums_up }
+pub returns-clause-runs : goal.returns-clause-runs
+returns-clause-runs c = sums_up

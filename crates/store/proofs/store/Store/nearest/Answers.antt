@@ -61,5 +61,5 @@ loop-at-preserved g c = (
   omega arith,
 )
 
-pub returns : goal.returns
-returns g c = record { entry = over c.loop-at.invariant.0 (omega arith); held = c.loop-at.invariant.0.best_in }
+pub returns-clause-entry : goal.returns-clause-entry
+returns-clause-entry g c = over c.loop-at.invariant.0 (omega arith)
