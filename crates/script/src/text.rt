@@ -1,11 +1,10 @@
 ghost use Rattle.std.specs.Prelude.{◌≡◌, ℕ, ◌+◌, ◌<◌, ◌≤◌, length, IfSome, IfOk, vec_items, string_bytes, codes, ◌≢◌, slice_index};
-ghost use Rattle.script.specs.Texts.{byte_of, hex_bytes, hex_digit, hex_text, numeral};
+ghost use Rattle.script.specs.Texts.{byte_of, digit_of, hex_bytes, hex_digit, hex_text, numeral};
 ghost use Rattle.script.specs.Reads.{Reads};
 
 use crate::error::ReadError;
 use std::alloc::{AllocError, Global};
 
-// For a caller that holds a script and a place in it; the console takes its lines one after another.
 // Where the line that begins at a place ends: at the next line feed, or at the end of the script.
 pub fn line_end(script: &[u8], from: usize) -> usize
     ensures within { result ≤ length script.now }
@@ -72,6 +71,14 @@ pub fn bytes(heap: Global, text: &str) -> Result<Vec<u8>, ReadError>
     Ok(bytes)
 }
 
+// The lower-case hexadecimal digit of a number below 16.
+fn digit_char(n: u8) -> char
+    requires { n < 16 }
+    ensures { result ≡ digit_of n }
+{
+    char::from_digit(u32::from(n), 16).unwrap()
+}
+
 // Bytes as pairs of lower-case hexadecimal digits, and none as `-`.
 pub fn hex(heap: Global, bytes: &[u8]) -> Result<String, AllocError>
     ensures { IfOk result (λ s. string_bytes s ≡ hex_text bytes.now) }
@@ -80,8 +87,10 @@ pub fn hex(heap: Global, bytes: &[u8]) -> Result<String, AllocError>
         return String::from_str(heap, "-");
     }
     let mut out = String::new(heap);
+    // Not by `{b:02x}`: a format for each byte takes several times as long.
     for b in bytes {
-        write!(out, "{b:02x}")?;
+        out.push(digit_char(*b / 16))?;
+        out.push(digit_char(*b % 16))?;
     }
     Ok(out)
 }

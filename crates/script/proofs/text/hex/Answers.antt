@@ -1,19 +1,23 @@
-use Rattle.std.proofs.Common.{◌≡◌, ℕ, ◌-◌, ◌^◌, ◌<◌, false, List, [], ◌++◌, get_or, Some, string_bytes, sym, refl, ap, ◌∙◌, subst, arith}
-use Rattle.std.specs.Fmt.{AppendsText, format_spec, padded_integral, styled_digits_output}
-use Rattle.std.specs.Option.{option_map}
-use Rattle.std.proofs.lemmas.Fmt.{hex_byte}
-use Rattle.script.specs.Texts.{hex_pair}
-use Rattle.script.proofs.Hex.{text_more}
+use Rattle.std.proofs.Common.{◌≡◌, ℕ, ◌<◌, List, ◌++◌, length, get_or, string_bytes, sym, refl, ◌∙◌, arith}
+use lib.Utf8.{encode}
+use Rattle.std.proofs.lemmas.Slice.{pushed}
+use Rattle.std.proofs.lemmas.Bool.{eqb-false}
+use Rattle.script.proofs.Hex.{text_pushed, text_all}
 use Rattle.script.proofs.text.hex.Goals as goal
 
 pub loop-b-preserved : goal.loop-b-preserved
 loop-b-preserved c =
-    let b : ℕ = get_or c.args.bytes.now c.loop-b.b-index 0 in
-    let small : b < 256 = (let f = c.type_inv.bytes c.loop-b.b-index in omega arith) in
-    let pair : styled_digits_output c.in_radix.result c.laid_out.result ≡ Some (hex_pair b) =
-    ap (styled_digits_output c.in_radix.result) c.laid_out.ensures
-    ∙ ap (option_map (padded_integral (format_spec 32 0 4 2 (2 ^ 64 - 1)) false [])) c.in_radix.ensures
-    ∙ ap (λ (l : List ℕ). Some l) (hex_byte false b small) in
-    subst (AppendsText (string_bytes c.loop-b.out) (string_bytes c.write.new.self)) pair c.in_ok-write.ensures.bytes
-    ∙ ap (λ (l : List ℕ). l ++ hex_pair b) c.loop-b.invariant
-    ∙ sym (text_more c.args.bytes.now c.loop-b.b-index b (omega arith) refl)
+    let was : List ℕ = string_bytes c.loop-b.out in
+    let first : List ℕ = encode c.digit_char.result in
+    let second : List ℕ = encode c.digit_char-in-loop-b.result in
+    let one : string_bytes c.push.new.self ≡ was ++ first = pushed first refl c.in_ok-push.was c.push.ensures.bytes in
+    let two : string_bytes c.push-in-loop-b.new.self ≡ (was ++ first) ++ second = pushed second one c.in_ok-push-2.was c.push-in-loop-b.ensures.bytes in
+    let small : get_or c.args.bytes.now c.loop-b.b-index 0 < 256 = (let f = c.type_inv.bytes c.loop-b.b-index in omega arith) in
+    two
+    ∙ text_pushed c.args.bytes.now was first second c.loop-b.b-index c.digit_char.result c.digit_char-in-loop-b.result (omega arith) small c.loop-b.invariant
+    c.digit_char.ensures c.digit_char-in-loop-b.ensures c.push.ensures.ascii c.push-in-loop-b.ensures.ascii
+
+pub returns : goal.returns
+returns c =
+    let some : (length c.args.bytes.now ≡ 0 → ⊥) = eqb-false (length c.args.bytes.now) 0 (sym c.is_empty.ensures ∙ c.if-is_empty.false) in
+    c.loop-b.invariant ∙ text_all c.args.bytes.now c.loop-b.b-index (omega arith) (omega arith)
