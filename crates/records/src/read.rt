@@ -9,13 +9,11 @@ use kinds::kind::{Written, width_of};
 use limits::refusal::Refusal;
 
 // The first N bytes that a sheet has from a place on. Refused with 11 where it has fewer there; past its end it has none.
-fn front<const N: usize>(sheet: &[u8], at: usize) -> Result<[u8; N], Refusal>
-    ensures { answered (λ bytes. bytes) result ≡ unless_short at N (drop at sheet.now) (Ok (take N (drop at sheet.now))) }
+fn front<const N: usize>(sheet: &[u8], at: usize) -> Result<&[u8; N], Refusal>
+    ensures { answered (λ bytes. bytes.now) result ≡ unless_short at N (drop at sheet.now) (Ok (take N (drop at sheet.now))) }
 {
     let rest = &sheet[at.min(sheet.len())..];
-    rest.first_chunk()
-        .copied()
-        .ok_or(Refusal::RecordEnds { place: at })
+    rest.first_chunk().ok_or(Refusal::RecordEnds { place: at })
 }
 
 // The N bytes of a record's head from an offset on.
@@ -32,26 +30,26 @@ pub fn read_head(sheet: &[u8], at: usize) -> Result<Head, Refusal>
     ensures within { HeadWithin at sheet.now result }
 {
     let bytes = front::<2>(sheet, at)?;
-    let mark = Mark::try_from(bytes).map_err(|_| Refusal::MarkImpossible { place: at })?;
+    let mark = Mark::try_from(*bytes).map_err(|_| Refusal::MarkImpossible { place: at })?;
     match mark {
         Mark::Closing => {
             let head = front::<4>(sheet, at)?;
             Ok(Head::ClosingHead {
-                count: u16::from_be_bytes(part(&head, 2)),
+                count: u16::from_be_bytes(part(head, 2)),
             })
         }
         Mark::Entry(children) => {
             let head = front::<16>(sheet, at)?;
             let numbers = Numbers {
                 children,
-                weight: u32::from_be_bytes(part(&head, 2)),
-                tag: u32::from_be_bytes(part(&head, 6)),
-                left: u16::from_be_bytes(part(&head, 10)),
-                right: u16::from_be_bytes(part(&head, 12)),
+                weight: u32::from_be_bytes(part(head, 2)),
+                tag: u32::from_be_bytes(part(head, 6)),
+                left: u16::from_be_bytes(part(head, 10)),
+                right: u16::from_be_bytes(part(head, 12)),
             };
             Ok(Head::EntryHead {
                 numbers,
-                length: u16::from_be_bytes(part(&head, 14)),
+                length: u16::from_be_bytes(part(head, 14)),
             })
         }
     }
