@@ -53,18 +53,21 @@ impl<'w, 'c, S: Ordered, C: Comparer<S>> Search<'w, 'c, S, C> {
             (slot.right_length, Ordering::Greater)
         };
         let share = usize::from(stored);
-        match share.cmp(&kept) {
-            Ordering::Less => Comparison {
+        // Two tests and no `cmp`: the order would be made at each entry met, only to be matched.
+        if share < kept {
+            Comparison {
                 answer: nearer,
                 share,
                 pairs: 0,
-            },
-            Ordering::Equal => compare_from(self.word, held, kept, self.comparer),
-            Ordering::Greater => Comparison {
+            }
+        } else if kept < share {
+            Comparison {
                 answer: nearer.reverse(),
                 share: kept,
                 pairs: 0,
-            },
+            }
+        } else {
+            compare_from(self.word, held, kept, self.comparer)
         }
     }
 

@@ -34,7 +34,8 @@ pub struct Looked {
 }
 
 impl<'a, S: Ordered> Store<'a, S> {
-    // Walks down the tree to a word.
+    // Walks down the tree to a word. In line in its callers, so that a counter lent by one of them stays in a register.
+    #[inline(always)]
     pub(crate) fn find<C: Comparer<S>>(&self, word: &[S], comparer: &mut C) -> Walk
         ensures walks { WalkOf S.Ordered.order (map S.Ordered.symbol word.now) (entry_of S.Ordered.symbol self.now.memory) (places self.now.memory) result }
         ensures asked { RaisedBy result.pairs (C.Comparer.asked comparer.old) (C.Comparer.asked comparer.new) }

@@ -83,7 +83,8 @@ impl<'a, S: Ordered> Memory<'a, S> {
         }
     }
 
-    // Compares a sought word with the entry met at a place.
+    // Compares a sought word with the entry met at a place. In line in each walk, which meets many entries.
+    #[inline(always)]
     pub(crate) fn compare<C: Comparer<S>>(
         &self,
         place: u16,
