@@ -23,17 +23,18 @@ fn main(rt: HostRuntime) -> io::Result<()> {
 // Runs each line of the script in turn, and prints its answer or why it has none.
 fn run(rt: &impl Print, heap: Global, script: &[u8]) -> io::Result<()> {
     let mut session = None;
-    let mut at = 0;
+    let mut rest = script;
     // Not by `split`: `line_end` says where each line ends, and is faster over empty ones.
-    while at < script.len() {
-        let end = line_end(script, at);
-        match run_line(heap, &mut session, &script[at..end]) {
+    while !rest.is_empty() {
+        let (line, more) = rest.split_at(line_end(rest, 0));
+        match run_line(heap, &mut session, line) {
             Ok(None) => {}
             Ok(Some(answer)) => println!(rt; "{answer}")?,
             Err(LineError::OutOfMemory) => return Err(io::ErrorKind::OutOfMemory.into()),
             Err(error) => println!(rt; "{error}")?,
         }
-        at = end + 1;
+        // without the line feed
+        rest = &more[more.len().min(1)..];
     }
     Ok(())
 }

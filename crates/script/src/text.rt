@@ -25,8 +25,8 @@ pub fn line_end(script: &[u8], from: usize) -> usize
 pub fn number(text: &str) -> Option<u64>
     ensures { result ≡ numeral 64 text.now }
 {
-    // `parse` takes a sign, which no number here has.
-    if text.starts_with('+') {
+    // `parse` takes a sign, which no number here has. It is told by its byte: a `char` as a pattern takes longer.
+    if let [b'+', ..] = text.as_bytes() {
         return None;
     }
     text.parse::<u64>().ok()
