@@ -24,7 +24,7 @@ fn main(rt: HostRuntime) -> io::Result<()> {
 fn run(rt: &impl Print, heap: Global, script: &[u8]) -> io::Result<()> {
     let mut session = None;
     let mut rest = script;
-    // Not by `split`: `line_end` says where each line ends, and is faster over empty ones.
+    // Not by `split`: `line_end` says where each line ends.
     while !rest.is_empty() {
         let (line, more) = rest.split_at(line_end(rest, 0));
         match run_line(heap, &mut session, line) {
